@@ -1,0 +1,16 @@
+//! Numbers, samples, rates and times, each a whole number kept in its range.
+//!
+//! The rules stand in `docs/DEFINITIONS.md`, "Numbers" and "Time".
+#![tactic(auto)]
+
+mod decimal;
+mod fix;
+mod rate;
+mod sample;
+mod ticks;
+
+pub use decimal::{NumFault, read_decimal};
+pub use fix::Fix;
+pub use rate::Rate;
+pub use sample::Sample;
+pub use ticks::{Ticks, index, ticks_of};

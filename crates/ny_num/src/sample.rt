@@ -1,0 +1,65 @@
+ghost use Rattle.std.specs.Prelude.{◌≡◌};
+ghost use Rattle.ny_num.specs.Numbers.{IsSample, sat_sample, sample_add};
+
+use crate::fix::Fix;
+use std::marker::Model;
+
+const LIMIT: i64 = 2_147_483_647;
+
+/// A sample: whole millionths from -2147483647 to 2147483647. Each operation is exact and then
+/// clamped once (`docs/DEFINITIONS.md`, "Numbers").
+#[derive(Clone, Copy, Debug, PartialEq, Eq)]
+pub struct Sample {
+    micro: i32,
+}
+
+impl Model for Sample {
+    ghost use Rattle.std.specs.Prelude.{ℤ};
+    ghost use Rattle.ny_num.specs.Numbers.{IsSample};
+
+    ghost Value = { ℤ };
+
+    ghost view = { λ s. s.micro };
+
+    ghost invariant = { λ s. IsSample s.micro };
+
+    ghost inverse = { λ z. record { micro = z } };
+}
+
+impl Sample {
+    /// The sample of silence.
+    pub const ZERO: Sample = Sample { micro: 0 };
+
+    /// The sample nearest to so many millionths.
+    #[tactic(auto, unfolding(crate::specs::Numbers::sat_sample))]
+    pub fn of(micro: i64) -> Sample
+        ensures value { result ≡ sat_sample micro }
+        ensures exact { IsSample micro → result ≡ micro }
+    {
+        let kept = micro.clamp(-LIMIT, LIMIT);
+        Sample { micro: kept as i32 }
+    }
+
+    /// The sample nearest to a number.
+    pub fn of_fix(v: Fix) -> Sample
+        ensures { result ≡ sat_sample v }
+    {
+        Sample::of(v.micro())
+    }
+
+    /// The sample in millionths.
+    pub fn micro(self) -> i32
+        ensures value { result ≡ self }
+        ensures within { IsSample result }
+    {
+        self.micro
+    }
+
+    /// The sum, clamped.
+    #[tactic(auto, unfolding(crate::specs::Numbers::sample_add))]
+    pub fn add(self, b: Sample) -> Sample
+        ensures { result ≡ sample_add self b }
+    {
+        Sample::of(i64::from(self.micro) + i64::from(b.micro))
+    }
+}
