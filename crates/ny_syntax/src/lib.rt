@@ -1,0 +1,10 @@
+//! The words of the language: its tokens, the trees that they make, and the one canonical text of a tree.
+//!
+//! The rules stand in `docs/LANGUAGE.md`.
+#![tactic(auto)]
+
+mod token;
+mod tree;
+
+pub use token::{Mark, Token, TokenKind, Word};
+pub use tree::{BinOp, Bind, Decl, Expr, Form, Name, Param, PreOp, Tree};
