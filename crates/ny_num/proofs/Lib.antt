@@ -1,2 +1,4 @@
+pub mod DecimalText
 pub mod Digits
+pub mod Places
 pub mod Points

@@ -1,9 +1,12 @@
-ghost use Rattle.std.specs.Prelude.{◌≡◌, ◌≤◌, ◌<◌, ◌+◌, ◌^◌, ◌-◌, length, MatchOption, IsTrue, true};
+ghost use Rattle.std.specs.Prelude.{◌≡◌, ℕ, pos, ◌≤◌, ◌<◌, ◌+◌, ◌^◌, ◌-◌, ◌++◌, length, MatchOption, IfOk, OnOk, IsTrue, true};
 ghost use Rattle.std.specs.List.{list_all, position, position_or_len};
 ghost use Rattle.std.specs.Char.{is_ascii_digit};
-ghost use Rattle.ny_num.specs.Decimal.{decimal_of, is_decimal, number_of, whole_part, places, is_point, fix_most};
+ghost use Rattle.std.specs.Fmt.{sign_text};
+ghost use Rattle.std.specs.Int.{is_negative};
+ghost use Rattle.ny_num.specs.Decimal.{decimal_of, is_decimal, number_of, whole_part, places, is_point, fix_most, point_and_places, decimal_text, IsDigitsAndPoint};
 
 use crate::fix::Fix;
+use std::alloc::{AllocError, Global};
 
 /// Why a text is no number (`docs/LANGUAGE.md`, "Numbers").
 #[derive(Clone, Copy, Debug, PartialEq, Eq)]
@@ -110,3 +113,57 @@ pub fn read_decimal(text: &[u8]) -> Result<Fix, NumFault>
     }
     Ok(Fix::of(micro as i64))
 }
+
+/// Appends a point and the digits of a rest below 1, in millionths, as far as the last that is
+/// not 0.
+#[tactic(auto, using(crate::proofs::Places::places_from_the_left))]
+fn push_places(text: &mut Vec<u8>, millionths: u32) -> Result<(), AllocError>
+    requires { millionths < 1000000 }
+    ensures { OnOk result (text.new.items ≡ text.old.items ++ point_and_places millionths) }
+{
+    if millionths == 0 {
+        return Ok(());
+    }
+    text.push(b'.')?;
+    let mut rest = millionths;
+    for place in 0..6 {
+        if rest == 0 {
+            break;
+        }
+        let worth = 10u32.pow(5 - place);
+        text.push(b'0' + (rest / worth) as u8)?;
+        rest %= worth;
+    }
+    Ok(())
+}
+
+/// A minus sign for a number below 0.
+fn sign_of(micro: i64) -> &'static str
+    ensures { result.now ≡ sign_text (is_negative micro) }
+{
+    if micro < 0 { "-" } else { "" }
+}
+
+/// The text of a number (`docs/LANGUAGE.md`, "Numbers"): a minus sign for one below 0, the whole
+/// part without leading zeros, and where the rest is not 0 a point and its digits as far as the
+/// last that is not 0.
+#[tactic(auto, unfolding(crate::specs::Decimal::decimal_text))]
+pub fn write_decimal(alloc: Global, v: Fix) -> Result<Vec<u8>, AllocError>
+    ensures { IfOk result (λ bytes. bytes.items ≡ decimal_text v) }
+{
+    let micro = v.micro();
+    let sign = sign_of(micro);
+    let size = micro.unsigned_abs();
+    let whole = size / 1_000_000;
+    let mut text = format!(in alloc; "{sign}{whole}")?.into_bytes();
+    push_places(&mut text, (size % 1_000_000) as u32)?;
+    Ok(text)
+}
+
+/// The law of the text of a number that is not negative: it is digits and perhaps a point, and it
+/// is read back as that number.
+#[tactic(auto, using(crate::proofs::DecimalText::reads_back))]
+pub fn text_reads_back()
+    ensures number { (n : ℕ) → n ≤ fix_most → decimal_of (decimal_text (pos n)) ≡ Ok (pos n) }
+    ensures bytes { (n : ℕ) → n ≤ fix_most → IsDigitsAndPoint (decimal_text (pos n)) }
+{}

@@ -9,7 +9,7 @@ mod rate;
 mod sample;
 mod ticks;
 
-pub use decimal::{NumFault, read_decimal};
+pub use decimal::{NumFault, read_decimal, text_reads_back, write_decimal};
 pub use fix::Fix;
 pub use rate::Rate;
 pub use sample::Sample;

@@ -1,0 +1,7 @@
+//! Whole runs, over a host in memory and over real files. This crate holds tests alone.
+#![tactic(auto)]
+
+#[cfg(test)]
+mod hosts;
+#[cfg(test)]
+mod renders;

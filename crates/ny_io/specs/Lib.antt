@@ -1,0 +1,5 @@
+pub mod Faults
+pub mod Host
+pub mod Memory
+pub mod MemoryFiles
+pub mod MemoryState

@@ -1,0 +1,4 @@
+pub mod PlaceLemmas
+pub mod PoolLemmas
+pub mod RangeLemmas
+pub mod SlotLemmas

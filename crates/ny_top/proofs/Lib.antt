@@ -1,0 +1,11 @@
+pub mod Sums
+pub mod RunLists
+pub mod Forms
+pub mod Numbers
+pub mod Rates
+pub mod OptionWords
+pub mod Terms
+pub mod Files
+pub mod Parts
+pub mod Faults
+pub mod Outcomes

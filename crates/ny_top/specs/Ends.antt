@@ -1,0 +1,114 @@
+-- What stands at the end of a run, whatever failed.
+use Rattle.std.specs.Prelude.{ℕ, ◌≡◌, ◌≤◌, ◌+◌, ◌-◌, ◌^◌, ◌⊎◌, List, take, min, IfSome, None, Some, Bool, true, false}
+use Rattle.std.specs.declared.option.Option.{Option}
+use Rattle.std.specs.Io.KnownBytes.{append_known}
+use Rattle.ny_io.specs.Faults.{Rose}
+use Rattle.ny_io.specs.Host.{Named, HostState, added, bytes_under}
+use Rattle.ny_top.specs.Channel.{text_file}
+use Rattle.ny_top.specs.Words.{Render}
+use Rattle.ny_top.specs.Outcome.{Outcome, usage_line, open_line, read_line, create_line, write_line, text_outcome}
+use Rattle.ny_top.specs.declared.status.Status.{Status}
+use Rattle.ny_top.specs.declared.status.Status.TheVariants.{Ok, Usage, OpenFault, ReadFault, WriteFault, Refused, PoolFull, OutOfMemory}
+
+-- the count is at least two greater, or stands at its greatest value
+abbrev pub RoseTwice : ℕ → ℕ → Type 0
+RoseTwice before now = min (before + 2) (2 ^ 64 - 1) ≤ now
+
+-- the created files with an outcome's file, or as they were
+abbrev pub made : Option Named → Option (List Named) → Option (List Named)
+made None files = files
+made (Some file) files = added file files
+
+-- the run ended with the outcome's status, file and printed bytes
+abbrev pub IsOutcome : Outcome → Status → HostState → HostState → Type 0
+IsOutcome o status old new =
+    (status ≡ o.status) × (new.created ≡ made o.file old.created) × (new.printed ≡ append_known old.printed o.printed)
+
+-- a status that no fault brings and no want of memory
+abbrev pub is_whole : Status → Bool
+is_whole Ok = true
+is_whole Usage = true
+is_whole Refused = true
+is_whole PoolFull = true
+is_whole OpenFault = false
+is_whole ReadFault = false
+is_whole WriteFault = false
+is_whole OutOfMemory = false
+
+-- the line of a failed write was tried once: it was printed, or a first part of it was and the count rose again
+abbrev pub FaultPart : HostState → HostState → Type 0
+FaultPart old new =
+    (new.printed ≡ append_known old.printed write_line)
+    ⊎ (Rose old.writes new.writes × ((count : ℕ) × (new.printed ≡ append_known old.printed (take count write_line))))
+
+-- A first part of a line was printed, and then the line of a failed write: whole, or a first part of it where the count
+-- rose twice.
+abbrev pub FaultTold : List ℕ → HostState → HostState → Type 0
+FaultTold line old new =
+    (first : ℕ) ×
+    (let known = append_known old.printed (take first line) in
+    (new.printed ≡ append_known known write_line)
+    ⊎ (RoseTwice old.writes new.writes × ((count : ℕ) × (new.printed ≡ append_known known (take count write_line)))))
+
+-- nothing was created, or one file with a first part of these bytes
+abbrev pub MadePart : List ℕ → List ℕ → HostState → HostState → Type 0
+MadePart to bytes old new =
+    (new.created ≡ old.created) ⊎ ((count : ℕ) × (new.created ≡ added (to, take count bytes) old.created))
+
+-- nothing was created, or one file with a first part of the bytes that a text has
+abbrev pub MadeOf : Render → List ℕ → HostState → HostState → Type 0
+MadeOf command text old new =
+    (new.created ≡ old.created)
+    ⊎ ((bytes : List ℕ) × (count : ℕ) × (text_file command.rate text ≡ Some bytes)
+    × (new.created ≡ added (command.to, take count bytes) old.created))
+
+-- nothing was created, or one file with a first part of the bytes that the text under the input's name has
+abbrev pub Makes : Render → HostState → HostState → Type 0
+Makes command old new =
+    (new.created ≡ old.created)
+    ⊎ ((text : List ℕ) × (bytes : List ℕ) × (count : ℕ) × IfSome old.files (λ files. text ≡ bytes_under command.from files)
+    × (text_file command.rate text ≡ Some bytes)
+    × (new.created ≡ added (command.to, take count bytes) old.created))
+
+-- the output could not be created, and this line was begun
+abbrev pub CreateTold : List ℕ → HostState → HostState → Type 0
+CreateTold to old new = Rose (old.creates to) (new.creates to) × FaultTold (create_line to) old new
+
+-- What is printed where a write failed: a first part of the outcome's bytes, or of the line of another fault, and then
+-- the line of the write.
+abbrev pub WriteTold : Render → HostState → HostState → Type 0
+WriteTold command old new =
+    IfSome old.files (λ files. FaultTold (text_outcome command (bytes_under command.from files)).printed old new)
+    ⊎ (Rose (old.opens command.from) (new.opens command.from) × FaultTold (open_line command.from) old new)
+    ⊎ (Rose (old.reads command.from) (new.reads command.from) × FaultTold (read_line command.from) old new)
+    ⊎ CreateTold command.to old new
+
+-- The input can't be opened, or the output can't be created: the count rose, and the whole line was printed.
+abbrev pub OpenCause : Render → HostState → HostState → Type 0
+OpenCause command old new =
+    (Rose (old.opens command.from) (new.opens command.from) × (new.printed ≡ append_known old.printed (open_line command.from)))
+    ⊎ (Rose (old.creates command.to) (new.creates command.to) × (new.printed ≡ append_known old.printed (create_line command.to)))
+
+-- The input can't be read: the count rose, and the whole line was printed.
+abbrev pub ReadCause : Render → HostState → HostState → Type 0
+ReadCause command old new =
+    Rose (old.reads command.from) (new.reads command.from) × (new.printed ≡ append_known old.printed (read_line command.from))
+
+-- no fault was counted at a write, nor at the names of a command
+abbrev pub NoneRose : Option Render → HostState → HostState → Type 0
+NoneRose None old new = Rose old.writes new.writes → ⊥
+NoneRose (Some command) old new =
+    (Rose (old.opens command.from) (new.opens command.from) → ⊥)
+    × (Rose (old.reads command.from) (new.reads command.from) → ⊥)
+    × (Rose (old.creates command.to) (new.creates command.to) → ⊥)
+    × (Rose old.writes new.writes → ⊥)
+
+-- what is printed where a write failed, also where the words are no command
+abbrev pub RunWriteTold : Option Render → HostState → HostState → Type 0
+RunWriteTold None old new = FaultTold usage_line old new
+RunWriteTold (Some command) old new = WriteTold command old new
+
+-- a file is made only for a command
+abbrev pub RunMakes : Option Render → HostState → HostState → Type 0
+RunMakes None old new = new.created ≡ old.created
+RunMakes (Some command) old new = Makes command old new

@@ -1,0 +1,70 @@
+-- The words of a command.
+use Rattle.std.specs.Prelude.{ℕ, List, [], ◌∷◌, length, Bool, ◌&&◌, nat_lt, nat_le, nat_eq, is_some, Some, None, if◌then◌else◌, option_and_then, option_map, unwrap_or, codes}
+use Rattle.std.specs.declared.option.Option.{Option}
+use Rattle.std.specs.List.{list_all}
+use Rattle.std.specs.Char.{is_ascii_digit}
+use Rattle.std.specs.Cmp.Lexicographic.{pointwise}
+use Rattle.ny_num.specs.Decimal.{number_of}
+use Rattle.ny_num.specs.Grid.{hz_of}
+use Rattle.ny_top.specs.declared.words.Options.{Options}
+use Rattle.ny_num.specs.declared.rate.Rate.{Rate}
+use Rattle.ny_num.specs.declared.rate.Rate.TheVariants.{R2205, R4410, R8000, R11025, R16000, R22050, R32000, R44100, R48000}
+
+-- whether a word is this one
+abbrev pub is_word : List ℕ → List ℕ → Bool
+is_word word text = pointwise nat_eq word text
+
+-- the number that a word of 1 to 10 digits writes; none for any other word
+abbrev pub number_word : List ℕ → Option ℕ
+number_word word =
+    if nat_lt 0 (length word) && nat_le (length word) 10 && list_all is_ascii_digit word then Some (number_of word) else None
+
+-- a block length: 16 to 4096 samples
+abbrev pub block_length : ℕ → Option ℕ
+block_length n = if nat_le 16 n && nat_le n 4096 then Some n else None
+
+-- the first of some rates that has so many samples a second
+abbrev pub rate_among : List Rate → ℕ → Option Rate
+rate_among [] hz = None
+rate_among (rate ∷ rates) hz = if nat_eq (hz_of rate) hz then Some rate else rate_among rates hz
+
+-- the rate of so many samples a second
+abbrev pub rate_with : ℕ → Option Rate
+rate_with hz =
+    rate_among (R2205 ∷ R4410 ∷ R8000 ∷ R11025 ∷ R16000 ∷ R22050 ∷ R32000 ∷ R44100 ∷ R48000 ∷ []) hz
+
+-- no option yet
+abbrev pub no_options : Options
+no_options = record { block = None; rate = None }
+
+-- the options and one more; none where it is unknown, was given before or has a value that it can't have
+abbrev pub with_option : Options → List ℕ → List ℕ → Option Options
+with_option options name value =
+    if is_word name (codes "--block") then
+    (if is_some options.block then None else option_map (λ n. record options { block = Some n }) (option_and_then block_length (number_word value)))
+    else (if is_word name (codes "--rate") then
+    (if is_some options.rate then None else option_map (λ r. record options { rate = Some r }) (option_and_then rate_with (number_word value)))
+    else None)
+
+-- the options with more words: names and values in turn
+abbrev pub with_options : Options → List (List ℕ) → Option Options
+with_options options [] = Some options
+with_options options (name ∷ []) = None
+with_options options (name ∷ value ∷ more) = option_and_then (λ next. with_options next more) (with_option options name value)
+
+-- what `render` is asked for: the names of its input and its output, the block length and the rate
+pub record Render : Type 0 where
+  pub from : List ℕ
+  pub to : List ℕ
+  pub block : ℕ
+  pub rate : Rate
+
+-- `render` with these options, and what stands for those that were not given
+abbrev pub render_of : List ℕ → List ℕ → Options → Render
+render_of from to options = record { from = from; to = to; block = unwrap_or options.block 1024; rate = unwrap_or options.rate R44100 }
+
+-- the command of the words; none where they are no command
+abbrev pub read_words : List (List ℕ) → Option Render
+read_words (command ∷ from ∷ to ∷ options) =
+    if is_word command (codes "render") then option_map (render_of from to) (with_options no_options options) else None
+read_words _ = None

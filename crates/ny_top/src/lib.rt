@@ -1,0 +1,17 @@
+//! A run of the program over any host: words, a text, a file (`docs/ARCHITECTURE.md`).
+#![tactic(auto)]
+
+mod ends;
+mod entry;
+mod file;
+mod form;
+mod names;
+mod song;
+mod status;
+mod sum;
+mod term;
+mod text;
+mod words;
+
+pub use entry::run;
+pub use status::Status;

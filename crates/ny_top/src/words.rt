@@ -1,0 +1,145 @@
+ghost use Rattle.std.specs.Prelude.{◌≡◌, ◌≤◌, ◌<◌, ◌+◌, ◌^◌, length, map, None, Some, string_bytes, MatchOption, IsTrue};
+ghost use Rattle.std.specs.List.{list_all};
+ghost use Rattle.std.specs.Char.{is_ascii_digit};
+ghost use Rattle.ny_num.specs.Decimal.{number_of};
+ghost use Rattle.ny_top.specs.Words.{number_word, block_length, rate_with, with_option, with_options, no_options, render_of, read_words};
+
+use ny_num::Rate;
+
+/// What `render` is asked for: the names of its input and its output, the block length in samples
+/// and the sample rate.
+#[derive(Clone, Copy)]
+pub(crate) struct Render<'a> {
+    pub(crate) input: &'a str,
+    pub(crate) output: &'a str,
+    pub(crate) block: u32,
+    pub(crate) rate: Rate,
+}
+
+/// The options that were given so far.
+#[derive(Clone, Copy)]
+pub struct Options {
+    pub block: Option<u32>,
+    pub rate: Option<Rate>,
+}
+
+const NO_OPTIONS: Options = Options {
+    block: None,
+    rate: None,
+};
+
+const DEFAULT_BLOCK: u32 = 1024;
+
+const DEFAULT_RATE: Rate = Rate::R44100;
+
+/// The most digits of a number.
+const MOST_DIGITS: usize = 10;
+
+/// The number that digits write, where it is below ten billion.
+#[tactic(auto, using(crate::proofs::Numbers::number_so_far))]
+fn digits_number(digits: &[u8]) -> u64
+    requires digits { IsTrue (list_all is_ascii_digit digits.now) }
+    requires small { number_of digits.now < 10 ^ 10 }
+    ensures { result ≡ number_of digits.now }
+{
+    let mut value = 0;
+    for digit in digits {
+        value = 10 * value + u64::from(*digit - b'0');
+    }
+    value
+}
+
+fn is_all_digits(text: &[u8]) -> bool
+    ensures { result ≡ list_all is_ascii_digit text.now }
+{
+    text.iter().all(|byte| byte.is_ascii_digit())
+}
+
+/// The number that a word of 1 to 10 digits writes.
+#[tactic(auto, using(crate::proofs::Numbers::few_digits))]
+fn number(word: &str) -> Option<u64>
+    ensures { result ≡ number_word word.now }
+{
+    let digits = word.as_bytes();
+    if 0 < digits.len() && digits.len() <= MOST_DIGITS && is_all_digits(digits) {
+        Some(digits_number(digits))
+    } else {
+        None
+    }
+}
+
+/// A block length: 16 to 4096 samples.
+fn block(number: u64) -> Option<u32>
+    ensures { result ≡ block_length number }
+{
+    if 16 <= number && number <= 4096 {
+        Some(number as u32)
+    } else {
+        None
+    }
+}
+
+/// The rate of so many samples a second.
+#[tactic(auto, using(crate::proofs::Rates::too_fast))]
+fn rate(number: u64) -> Option<Rate>
+    ensures { result ≡ rate_with number }
+{
+    if number > 48_000 {
+        return None;
+    }
+    Rate::of(number as u32)
+}
+
+/// The options with one more; none where it can't be given.
+fn more(options: Options, name: &str, value: &str) -> Option<Options>
+    ensures { result ≡ with_option options name.now value.now }
+{
+    match name {
+        "--block" if options.block.is_none() => Some(Options {
+            block: Some(block(number(value)?)?),
+            ..options
+        }),
+        "--rate" if options.rate.is_none() => Some(Options {
+            rate: Some(rate(number(value)?)?),
+            ..options
+        }),
+        _ => None,
+    }
+}
+
+/// The options of a command, from names and values in turn.
+fn read_options(words: &[String]) -> Option<Options>
+    ensures { result ≡ with_options no_options (map string_bytes words.now) }
+{
+    let mut options = NO_OPTIONS;
+    let mut at = 0;
+    while at + 1 < words.len() {
+        options = more(options, words[at].as_str(), words[at + 1].as_str())?;
+        at += 2;
+    }
+    if at < words.len() {
+        None
+    } else {
+        Some(options)
+    }
+}
+
+/// What the words ask for; none where they are no command (`docs/LANGUAGE.md`, "The command line").
+pub(crate) fn command(words: &[String]) -> Option<Render<'_>>
+    ensures { MatchOption result
+        (read_words (map string_bytes words.now) ≡ None)
+        (λ command. read_words (map string_bytes words.now) ≡ Some (record { from = command.input.now; to = command.output.now; block = command.block; rate = command.rate })) }
+{
+    match words {
+        [name, input, output, rest @ ..] if name.as_str() == "render" => {
+            let options = read_options(rest)?;
+            Some(Render {
+                input: input.as_str(),
+                output: output.as_str(),
+                block: options.block.unwrap_or(DEFAULT_BLOCK),
+                rate: options.rate.unwrap_or(DEFAULT_RATE),
+            })
+        }
+        _ => None,
+    }
+}
