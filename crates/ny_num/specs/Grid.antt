@@ -49,6 +49,10 @@ ticks_of_micro v = clamp_ticks (floor_div (v *ℤ pos 7056) (pos 10))
 unfoldable pub index_at : ℕ → Rate → ℕ
 index_at t r = (t + grid_of r / 2) / grid_of r
 
+-- the time of the sample at an index
+unfoldable pub tick_at : ℕ → Rate → ℕ
+tick_at n r = n * grid_of r
+
 -- the index of the horizon: an hour of samples
 abbrev pub last_index : Rate → ℕ
 last_index r = 3600 * hz_of r

@@ -1,3 +1,4 @@
 pub mod Numbers
 pub mod Grid
 pub mod Decimal
+pub mod Sound

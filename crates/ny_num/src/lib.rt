@@ -8,9 +8,11 @@ mod fix;
 mod rate;
 mod sample;
 mod ticks;
+mod timing;
 
 pub use decimal::{NumFault, read_decimal, text_reads_back, write_decimal};
 pub use fix::Fix;
 pub use rate::Rate;
 pub use sample::Sample;
-pub use ticks::{Ticks, index, ticks_of};
+pub use ticks::{Ticks, index, tick_of_index, ticks_of};
+pub use timing::Timing;

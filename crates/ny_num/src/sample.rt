@@ -1,5 +1,5 @@
 ghost use Rattle.std.specs.Prelude.{◌≡◌};
-ghost use Rattle.ny_num.specs.Numbers.{IsSample, sat_sample, sample_add};
+ghost use Rattle.ny_num.specs.Numbers.{IsSample, sat_sample, sample_add, sample_sub, sample_mul, sample_max, sample_min, sample_abs};
 
 use crate::fix::Fix;
 use std::marker::Model;
@@ -61,5 +61,49 @@ impl Sample {
         ensures { result ≡ sample_add self b }
     {
         Sample::of(i64::from(self.micro) + i64::from(b.micro))
+    }
+
+    /// The difference, clamped.
+    #[tactic(auto, unfolding(crate::specs::Numbers::sample_sub))]
+    pub fn sub(self, b: Sample) -> Sample
+        ensures { result ≡ sample_sub self b }
+    {
+        Sample::of(i64::from(self.micro) - i64::from(b.micro))
+    }
+
+    /// The product, rounded down to a millionth and clamped.
+    #[tactic(auto, unfolding(crate::specs::Numbers::sample_mul))]
+    pub fn mul(self, b: Sample) -> Sample
+        ensures { result ≡ sample_mul self b }
+    {
+        let product = i64::from(self.micro) * i64::from(b.micro);
+        Sample::of(product.div_euclid(1_000_000))
+    }
+
+    /// The greater of the two.
+    pub fn max(self, b: Sample) -> Sample
+        ensures { result ≡ sample_max self b }
+    {
+        Sample {
+            micro: self.micro.max(b.micro),
+        }
+    }
+
+    /// The smaller of the two.
+    pub fn min(self, b: Sample) -> Sample
+        ensures { result ≡ sample_min self b }
+    {
+        Sample {
+            micro: self.micro.min(b.micro),
+        }
+    }
+
+    /// The sample without its sign.
+    pub fn abs(self) -> Sample
+        ensures { result ≡ sample_abs self }
+    {
+        Sample {
+            micro: self.micro.abs(),
+        }
     }
 }

@@ -1,5 +1,5 @@
 ghost use Rattle.std.specs.Prelude.{◌≡◌, ◌≤◌, ◌*◌, min};
-ghost use Rattle.ny_num.specs.Grid.{horizon, hz_of, last_index, ticks_of_micro, index_at};
+ghost use Rattle.ny_num.specs.Grid.{horizon, hz_of, last_index, ticks_of_micro, index_at, tick_at};
 
 use crate::fix::Fix;
 use crate::rate::Rate;
@@ -66,4 +66,16 @@ pub fn index(t: Ticks, r: Rate) -> u32
 {
     let grid = r.grid();
     ((t.count + grid / 2) / grid) as u32
+}
+
+/// The time of the sample at an index, which is at most the horizon's.
+#[tactic(auto, unfolding(crate::specs::Grid::tick_at))]
+pub fn tick_of_index(n: u32, r: Rate) -> Ticks
+    requires { n ≤ last_index r }
+    ensures value { result ≡ tick_at n r }
+    ensures within { result ≤ horizon }
+{
+    Ticks {
+        count: u64::from(n) * r.grid(),
+    }
 }

@@ -1,0 +1,11 @@
+pub mod Runs
+pub mod Gaps
+pub mod Shorter
+pub mod Tokens
+pub mod Alone
+pub mod Ended
+pub mod Slices
+pub mod Spaced
+pub mod Written
+pub mod Folded
+pub mod Spelled

@@ -1,0 +1,13 @@
+//! From the bytes of a text to its tokens.
+//!
+//! The rules stand in `docs/LANGUAGE.md`, "Tokens".
+#![tactic(auto)]
+
+mod bytes;
+mod fault;
+mod lexer;
+mod word;
+
+pub use fault::{LexFault, LexWhy};
+pub use lexer::lex;
+pub use ny_syntax::{Mark, Token, TokenKind, Word};
