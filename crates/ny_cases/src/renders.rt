@@ -29,7 +29,7 @@ fn file(alloc: Global, count: u8, sample: [u8; 2]) -> Result<Vec<u8>, AllocError
 }
 
 /// Texts, with the number of their samples and the bytes of each.
-const SONGS: [(&str, &[u8], u8, [u8; 2]); 9] = [
+const SONGS: [(&str, &[u8], u8, [u8; 2]); 10] = [
     ("first_file", b"play const(0.5, 0.001)", 8, [0xff, 0x3f]),
     ("empty_sound", b"play const(0.5, 0)", 0, [0, 0]),
     (
@@ -48,6 +48,12 @@ const SONGS: [(&str, &[u8], u8, [u8; 2]); 9] = [
     (
         "blanks between tokens",
         b"\r\n play\tconst ( 0.5 ,\n.001 ) \n",
+        8,
+        [0xff, 0x3f],
+    ),
+    (
+        "a comment, brackets and upper case",
+        b"PLAY (Const(.5, 0.001)) ; a piece",
         8,
         [0xff, 0x3f],
     ),
@@ -114,7 +120,7 @@ const REFUSALS: [Refusal; 30] = [
         b"fault: usage\n",
     ),
     (
-        "check a.sal",
+        "check a.sal a.wav",
         SONG,
         None,
         AMPLE,
@@ -258,7 +264,7 @@ const REFUSALS: [Refusal; 30] = [
         AMPLE,
         Status::Refused,
         None,
-        b"refused: form\n",
+        b"refused: parse 0\n",
     ),
     (
         COMMAND,
@@ -267,7 +273,7 @@ const REFUSALS: [Refusal; 30] = [
         AMPLE,
         Status::Refused,
         None,
-        b"refused: form\n",
+        b"refused: parse 23\n",
     ),
     (
         COMMAND,
@@ -294,11 +300,11 @@ const REFUSALS: [Refusal; 30] = [
         AMPLE,
         Status::Refused,
         None,
-        b"refused: form\n",
+        b"refused: parse 24\n",
     ),
     (
         COMMAND,
-        b"Play const(0.5, 0.001)",
+        b"play s-rest(1)",
         None,
         AMPLE,
         Status::Refused,
@@ -312,7 +318,7 @@ const REFUSALS: [Refusal; 30] = [
         AMPLE,
         Status::Refused,
         None,
-        b"refused: form\n",
+        b"refused: lex 11 NotDecimal\n",
     ),
     // Files that can't be created or written.
     (

@@ -9,3 +9,5 @@ pub mod Spaced
 pub mod Written
 pub mod Folded
 pub mod Spelled
+pub mod SpacedLines
+pub mod CanonicalTokens

@@ -34,7 +34,7 @@ mutual
       [ true ↦ ends_in-more byte text (after_gap text) (after_gap-ends text) | false ↦ ends_in-more byte text (after_comment text) (after_comment-ends text) ]
 
 -- the bytes from where a word begins to where it ends are the word
-slice-word : (front word after : List ℕ) → let text = front ++ (word ++ after) in
+pub slice-word : (front word after : List ℕ) → let text = front ++ (word ++ after) in
     slice_range text (length text - length (word ++ after)) (length text - length after) ≡ word
 slice-word front word after =
     let text = front ++ (word ++ after) in

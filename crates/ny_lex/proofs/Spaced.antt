@@ -56,7 +56,7 @@ blank-none byte blank = on_blank BeginsNone (refl, refl, refl, refl, refl, refl)
 pub blank-ends : (byte : ℕ) → is_blank byte ≡ true → EndsToken byte
 blank-ends byte blank = on_blank EndsToken (refl, refl, refl) (refl, refl, refl) (refl, refl, refl) (refl, refl, refl) byte blank
 
-after_gap-blank : (byte : ℕ) (text : List ℕ) → is_blank byte ≡ true → after_gap (byte ∷ text) ≡ after_gap text
+pub after_gap-blank : (byte : ℕ) (text : List ℕ) → is_blank byte ≡ true → after_gap (byte ∷ text) ≡ after_gap text
 unfolding after_gap
 after_gap-blank byte text blank = on_blank (λ z. after_gap (z ∷ text) ≡ after_gap text) refl refl refl refl byte blank
 
@@ -78,7 +78,7 @@ after_gap-word (byte ∷ text) kind after is = by_tests (byte == 59) (is_blank b
     by_tests false false is_comment is_blank_byte = refl
 
 -- a gap before the tokens changes nothing but the places that they are counted from
-spells-gap : (size : ℕ) (text other : List ℕ) (tokens : List Token) (rest : List ℕ) → after_gap other ≡ after_gap text → Spells size text tokens rest → Spells size other tokens rest
+pub spells-gap : (size : ℕ) (text other : List ℕ) (tokens : List Token) (rest : List ℕ) → after_gap other ≡ after_gap text → Spells size text tokens rest → Spells size other tokens rest
 spells-gap size text other [] rest same is = same ∙ is
 spells-gap size text other (token ∷ tokens) rest same (after, read, from, to, is) =
     (after, ap word_at same ∙ read, from ∙ ap (λ z. place_of size z) (sym same), to, is)

@@ -11,74 +11,43 @@ use Rattle.ny_syntax.specs.declared.token.Mark.{Mark}
 use Rattle.ny_syntax.specs.declared.token.Mark.TheVariants as marks
 use Rattle.ny_syntax.specs.declared.token.Word.{Word}
 use Rattle.ny_syntax.specs.declared.token.Word.TheVariants as words
+use Rattle.ny_syntax.specs.Spelled.{word_text, mark_text}
 use Rattle.ny_lex.specs.declared.fault.LexWhy.TheVariants.{BadByte, BadHash}
 use Rattle.ny_lex.specs.Bytes.{run, after_run, is_name_start, is_name_byte, is_number_byte, folded}
 use Rattle.ny_lex.specs.Words.{Read, why_of, named, reserved_of, name_at, begins_number, number_word, number_at, if_at, mark_of, long_mark, sign_or, sign_at, word_at}
 use Rattle.ny_lex.proofs.Ended.{ok_parts}
 
--- the bytes of a reserved word
-abbrev pub word_bytes : Word → List ℕ
-word_bytes words.Define = codes "define"
-word_bytes words.Function = codes "function"
-word_bytes words.Variable = codes "variable"
-word_bytes words.Begin = codes "begin"
-word_bytes words.With = codes "with"
-word_bytes words.End = codes "end"
-word_bytes words.Return = codes "return"
-word_bytes words.Play = codes "play"
-
--- the bytes of a sign
-abbrev pub mark_bytes : Mark → List ℕ
-mark_bytes marks.Open = codes "("
-mark_bytes marks.Close = codes ")"
-mark_bytes marks.Comma = codes ","
-mark_bytes marks.Plus = codes "+"
-mark_bytes marks.Minus = codes "-"
-mark_bytes marks.Times = codes "*"
-mark_bytes marks.Over = codes "/"
-mark_bytes marks.At = codes "@"
-mark_bytes marks.Tilde = codes "~"
-mark_bytes marks.Equal = codes "="
-mark_bytes marks.NotEqual = codes "!="
-mark_bytes marks.Less = codes "<"
-mark_bytes marks.Greater = codes ">"
-mark_bytes marks.LessEqual = codes "<="
-mark_bytes marks.GreaterEqual = codes ">="
-mark_bytes marks.And = codes "&"
-mark_bytes marks.Or = codes "|"
-mark_bytes marks.Not = codes "!"
-
-pub word_at-word_bytes : (word : Word) → word_at (word_bytes word) ≡ Ok (Reserved word, [])
+pub word_at-word_text : (word : Word) → word_at (word_text word) ≡ Ok (Reserved word, [])
 unfolding word_at name_at run after_run
-word_at-word_bytes words.Define = refl
-word_at-word_bytes words.Function = refl
-word_at-word_bytes words.Variable = refl
-word_at-word_bytes words.Begin = refl
-word_at-word_bytes words.With = refl
-word_at-word_bytes words.End = refl
-word_at-word_bytes words.Return = refl
-word_at-word_bytes words.Play = refl
+word_at-word_text words.Define = refl
+word_at-word_text words.Function = refl
+word_at-word_text words.Variable = refl
+word_at-word_text words.Begin = refl
+word_at-word_text words.With = refl
+word_at-word_text words.End = refl
+word_at-word_text words.Return = refl
+word_at-word_text words.Play = refl
 
-pub word_at-mark_bytes : (mark : Mark) → word_at (mark_bytes mark) ≡ Ok (Sign mark, [])
+pub word_at-mark_text : (mark : Mark) → word_at (mark_text mark) ≡ Ok (Sign mark, [])
 unfolding word_at begins_number sign_at
-word_at-mark_bytes marks.Open = refl
-word_at-mark_bytes marks.Close = refl
-word_at-mark_bytes marks.Comma = refl
-word_at-mark_bytes marks.Plus = refl
-word_at-mark_bytes marks.Minus = refl
-word_at-mark_bytes marks.Times = refl
-word_at-mark_bytes marks.Over = refl
-word_at-mark_bytes marks.At = refl
-word_at-mark_bytes marks.Tilde = refl
-word_at-mark_bytes marks.Equal = refl
-word_at-mark_bytes marks.NotEqual = refl
-word_at-mark_bytes marks.Less = refl
-word_at-mark_bytes marks.Greater = refl
-word_at-mark_bytes marks.LessEqual = refl
-word_at-mark_bytes marks.GreaterEqual = refl
-word_at-mark_bytes marks.And = refl
-word_at-mark_bytes marks.Or = refl
-word_at-mark_bytes marks.Not = refl
+word_at-mark_text marks.Open = refl
+word_at-mark_text marks.Close = refl
+word_at-mark_text marks.Comma = refl
+word_at-mark_text marks.Plus = refl
+word_at-mark_text marks.Minus = refl
+word_at-mark_text marks.Times = refl
+word_at-mark_text marks.Over = refl
+word_at-mark_text marks.At = refl
+word_at-mark_text marks.Tilde = refl
+word_at-mark_text marks.Equal = refl
+word_at-mark_text marks.NotEqual = refl
+word_at-mark_text marks.Less = refl
+word_at-mark_text marks.Greater = refl
+word_at-mark_text marks.LessEqual = refl
+word_at-mark_text marks.GreaterEqual = refl
+word_at-mark_text marks.And = refl
+word_at-mark_text marks.Or = refl
+word_at-mark_text marks.Not = refl
 
 pub word_at-if_bytes : word_at (codes "#if") ≡ Ok (If, [])
 unfolding word_at begins_number if_at run after_run

@@ -5,7 +5,8 @@ use Rattle.ny_syntax.specs.declared.token.TokenKind.{TokenKind}
 use Rattle.ny_lex.specs.declared.fault.LexWhy.{LexWhy}
 use Rattle.ny_lex.specs.Bytes.{after_gap}
 use Rattle.ny_lex.specs.Words.{Read, word_at}
-use Rattle.ny_lex.specs.Spelling.{Spells, HasNoTokens, IsUnreadable, IsRefused, AreInOrder, place_of}
+use Rattle.ny_syntax.specs.Places.{AreInOrder}
+use Rattle.ny_lex.specs.Spelling.{Spells, HasNoTokens, IsUnreadable, IsRefused, place_of}
 use Rattle.ny_lex.specs.declared.fault.LexFault.{LexFault}
 use Rattle.ny_lex.specs.declared.fault.LexFault.TheVariants.{Bad, OutOfMemory}
 use Rattle.ny_lex.proofs.Shorter.{after_gap-shorter, word_at-shorter}

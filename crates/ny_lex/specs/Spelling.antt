@@ -1,5 +1,5 @@
 -- The tokens of a text, with their places.
-use Rattle.std.specs.Prelude.{◌≡◌, ℕ, ◌-◌, ◌<◌, ◌≤◌, List, [], ◌∷◌, length, Ok, Err}
+use Rattle.std.specs.Prelude.{◌≡◌, ℕ, ◌-◌, ◌<◌, List, [], ◌∷◌, length, Ok, Err}
 use Rattle.std.specs.List.{slice_range}
 use Rattle.ny_syntax.specs.declared.token.Token.{Token}
 use Rattle.ny_lex.specs.declared.fault.LexWhy.{LexWhy}
@@ -36,11 +36,6 @@ HasNoTokens text = (tokens : List Token) → HasTokens text tokens → ⊥
 abbrev pub IsRefused : List ℕ → LexFault → Type 0
 IsRefused text (Bad at why) = IsUnreadable text at why
 IsRefused text OutOfMemory = Unit {0}
-
--- tokens from one place to another, one after the other, and each of at least one byte
-abbrev pub AreInOrder : ℕ → List Token → ℕ → Type 0
-AreInOrder start [] end = start ≤ end
-AreInOrder start (token ∷ tokens) end = (start ≤ token.from) × (token.from < token.to) × AreInOrder token.to tokens end
 
 -- each token is what its own bytes are, read alone
 abbrev pub AreReadAlone : List ℕ → List Token → Type 0

@@ -1,5 +1,6 @@
 ghost use Rattle.std.specs.Prelude.{◌≡◌, ◌≢◌, ◌≤◌, ℕ, List, length, IfOk, IfErr};
-ghost use Rattle.ny_lex.specs.Spelling.{HasTokens, HasNoTokens, IsUnreadable, IsRefused, AreInOrder, AreReadAlone};
+ghost use Rattle.ny_syntax.specs.Places.{AreInOrder};
+ghost use Rattle.ny_lex.specs.Spelling.{HasTokens, HasNoTokens, IsUnreadable, IsRefused, AreReadAlone};
 
 use crate::bytes::after_gap;
 use crate::fault::{LexFault, LexWhy};

@@ -1,5 +1,5 @@
 -- Sounds as whole lists of samples, and when they are heard.
-use Rattle.std.specs.Prelude.{◌≡◌, ℕ, ◌+◌, ◌-◌, ◌≤◌, min, max, nat_le, if◌then◌else◌, List, length, map, slice_index_or, ℤ, pos}
+use Rattle.std.specs.Prelude.{ℕ, ◌+◌, ◌-◌, ◌≤◌, min, max, nat_le, if◌then◌else◌, List, length, map, slice_index_or, ℤ, pos}
 use Rattle.std.specs.List.{range_with_len}
 use Rattle.ny_num.specs.Grid.{horizon, tick_at, last_index}
 use Rattle.ny_num.specs.declared.rate.Rate.{Rate}

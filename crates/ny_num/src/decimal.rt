@@ -1,4 +1,4 @@
-ghost use Rattle.std.specs.Prelude.{◌≡◌, ℕ, pos, ◌≤◌, ◌<◌, ◌+◌, ◌^◌, ◌-◌, ◌++◌, length, MatchOption, IfOk, OnOk, IsTrue, true};
+ghost use Rattle.std.specs.Prelude.{◌≡◌, ℕ, pos, ◌≤◌, ◌<◌, ◌+◌, ◌^◌, ◌-◌, ◌++◌, length, MatchOption, IfOk, OnOk, IsTrue, true, decimal};
 ghost use Rattle.std.specs.List.{list_all, position, position_or_len};
 ghost use Rattle.std.specs.Char.{is_ascii_digit};
 ghost use Rattle.std.specs.Fmt.{sign_text};
@@ -144,19 +144,40 @@ fn sign_of(micro: i64) -> &'static str
     if micro < 0 { "-" } else { "" }
 }
 
-/// The text of a number (`docs/LANGUAGE.md`, "Numbers"): a minus sign for one below 0, the whole
-/// part without leading zeros, and where the rest is not 0 a point and its digits as far as the
-/// last that is not 0.
+/// Appends the digits of a whole number. It calls itself once for each digit but the first.
+#[tactic(auto, using(crate::proofs::WholeDigits::digit_by_digit))]
+fn push_whole(text: &mut Vec<u8>, n: u64) -> Result<(), AllocError>
+    ensures { OnOk result (text.new.items ≡ text.old.items ++ decimal n) }
+{
+    if n < 10 {
+        text.push(b'0' + n as u8)?;
+        return Ok(());
+    }
+    push_whole(text, n / 10)?;
+    text.push(b'0' + (n % 10) as u8)?;
+    Ok(())
+}
+
+/// Appends the text of a number (`docs/LANGUAGE.md`, "Numbers"): a minus sign for one below 0, the
+/// whole part without leading zeros, and where the rest is not 0 a point and its digits as far as
+/// the last that is not 0.
 #[tactic(auto, unfolding(crate::specs::Decimal::decimal_text))]
+pub fn push_decimal(text: &mut Vec<u8>, v: Fix) -> Result<(), AllocError>
+    ensures { OnOk result (text.new.items ≡ text.old.items ++ decimal_text v) }
+{
+    let micro = v.micro();
+    let size = micro.unsigned_abs();
+    text.extend_from_slice(sign_of(micro).as_bytes())?;
+    push_whole(text, size / 1_000_000)?;
+    push_places(text, (size % 1_000_000) as u32)
+}
+
+/// The text of a number, as `push_decimal` appends it.
 pub fn write_decimal(alloc: Global, v: Fix) -> Result<Vec<u8>, AllocError>
     ensures { IfOk result (λ bytes. bytes.items ≡ decimal_text v) }
 {
-    let micro = v.micro();
-    let sign = sign_of(micro);
-    let size = micro.unsigned_abs();
-    let whole = size / 1_000_000;
-    let mut text = format!(in alloc; "{sign}{whole}")?.into_bytes();
-    push_places(&mut text, (size % 1_000_000) as u32)?;
+    let mut text = Vec::new(alloc);
+    push_decimal(&mut text, v)?;
     Ok(text)
 }
 

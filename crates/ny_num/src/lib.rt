@@ -10,7 +10,7 @@ mod sample;
 mod ticks;
 mod timing;
 
-pub use decimal::{NumFault, read_decimal, text_reads_back, write_decimal};
+pub use decimal::{NumFault, push_decimal, read_decimal, text_reads_back, write_decimal};
 pub use fix::Fix;
 pub use rate::Rate;
 pub use sample::Sample;

@@ -1,0 +1,17 @@
+pub mod Again
+pub mod AgainLists
+pub mod AgainPrograms
+pub mod CanonicalParse
+pub mod Commas
+pub mod Each
+pub mod Fewest
+pub mod FewestPrograms
+pub mod Operators
+pub mod RoundTrip
+pub mod SpelledTokens
+pub mod Tokens
+pub mod Unplaced
+pub mod UnplacedEquations
+pub mod WholeLines
+pub mod WorkedTexts
+pub mod WrittenEquations

@@ -1,0 +1,6 @@
+pub mod Canonical
+pub mod Grammar
+pub mod Levels
+pub mod Places
+pub mod SameTree
+pub mod Spelled

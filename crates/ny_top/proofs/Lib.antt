@@ -1,11 +1,13 @@
 pub mod Sums
 pub mod RunLists
-pub mod Forms
+pub mod Terms
+pub mod Files
 pub mod Numbers
 pub mod Rates
 pub mod OptionWords
-pub mod Terms
-pub mod Files
 pub mod Parts
-pub mod Faults
+pub mod FaultLines
 pub mod Outcomes
+pub mod Stages
+pub mod OneOutcome
+pub mod Complete

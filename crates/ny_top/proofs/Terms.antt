@@ -1,7 +1,7 @@
 -- Terms one at a time.
 use Rattle.std.proofs.Common.{◌≡◌, ℕ, ◌+◌, ◌≤◌, ◌<◌, List, [], ◌∷◌, ◌++◌, length, take, get_or, map, max, arith, sym, ap, refl}
 use Rattle.std.proofs.lemmas.List.{take_more}
-use Rattle.ny_top.specs.declared.form.Written.{Written}
+use Rattle.ny_top.specs.declared.constant.Written.{Written}
 use Rattle.ny_top.specs.declared.term.Term.{Term}
 use Rattle.ny_top.specs.Channel.{longest}
 

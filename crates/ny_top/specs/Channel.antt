@@ -7,8 +7,9 @@ use Rattle.ny_num.specs.Grid.{ticks_of_micro, index_at}
 use Rattle.ny_num.specs.declared.rate.Rate.{Rate}
 use Rattle.ny_top.specs.declared.term.Term.{Term}
 use Rattle.ny_wav.specs.WavFile.{wav_of}
+use Rattle.ny_syntax.specs.declared.tree.Tree.{Tree}
 use Rattle.ny_top.specs.Form.{form_of}
-use Rattle.ny_top.specs.declared.form.Written.{Written}
+use Rattle.ny_top.specs.declared.constant.Written.{Written}
 
 -- a constant at a rate: its sample, and as many samples as its seconds take
 unfoldable pub term_of : Rate → Written → Term
@@ -39,6 +40,6 @@ mono samples = map (λ sample. sample ∷ []) samples
 unfoldable pub file_of : Rate → List Written → List ℕ
 file_of rate constants = wav_of 1 rate (mono (channel_of (map (term_of rate) constants)))
 
--- the file of a text at a rate; none where the text can't be played
-unfoldable pub text_file : Rate → List ℕ → Option (List ℕ)
-text_file rate text = option_map (file_of rate) (form_of text)
+-- the file of a tree at a rate; none where the tree can't be played yet
+unfoldable pub tree_file : Rate → Tree → Option (List ℕ)
+tree_file rate tree = option_map (file_of rate) (form_of tree)

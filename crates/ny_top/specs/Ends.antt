@@ -4,9 +4,11 @@ use Rattle.std.specs.declared.option.Option.{Option}
 use Rattle.std.specs.Io.KnownBytes.{append_known}
 use Rattle.ny_io.specs.Faults.{Rose}
 use Rattle.ny_io.specs.Host.{Named, HostState, added, bytes_under}
-use Rattle.ny_top.specs.Channel.{text_file}
-use Rattle.ny_top.specs.Words.{Render}
-use Rattle.ny_top.specs.Outcome.{Outcome, usage_line, open_line, read_line, create_line, write_line, text_outcome}
+use Rattle.ny_syntax.specs.declared.tree.Tree.{Tree}
+use Rattle.ny_top.specs.Channel.{tree_file}
+use Rattle.ny_top.specs.Reading.{IsTreeOf}
+use Rattle.ny_top.specs.Words.{Task, Command, render, check}
+use Rattle.ny_top.specs.Outcome.{Outcome, usage_line, open_line, read_line, create_line, write_line, HasTextOutcome}
 use Rattle.ny_top.specs.declared.status.Status.{Status}
 use Rattle.ny_top.specs.declared.status.Status.TheVariants.{Ok, Usage, OpenFault, ReadFault, WriteFault, Refused, PoolFull, OutOfMemory}
 
@@ -55,60 +57,82 @@ abbrev pub MadePart : List ℕ → List ℕ → HostState → HostState → Type
 MadePart to bytes old new =
     (new.created ≡ old.created) ⊎ ((count : ℕ) × (new.created ≡ added (to, take count bytes) old.created))
 
--- nothing was created, or one file with a first part of the bytes that a text has
-abbrev pub MadeOf : Render → List ℕ → HostState → HostState → Type 0
-MadeOf command text old new =
+-- nothing was created; or, to render a tree, one file with a first part of the bytes of the tree's file
+abbrev pub MadeTree : Task → Tree → HostState → HostState → Type 0
+MadeTree check tree old new = new.created ≡ old.created
+MadeTree (render r) tree old new =
     (new.created ≡ old.created)
-    ⊎ ((bytes : List ℕ) × (count : ℕ) × (text_file command.rate text ≡ Some bytes)
-    × (new.created ≡ added (command.to, take count bytes) old.created))
+    ⊎ ((bytes : List ℕ) × (count : ℕ) × (tree_file r.rate tree ≡ Some bytes) × (new.created ≡ added (r.to, take count bytes) old.created))
 
--- nothing was created, or one file with a first part of the bytes that the text under the input's name has
-abbrev pub Makes : Render → HostState → HostState → Type 0
+-- the same of the tree that a text has, if it has one
+abbrev pub MadeText : Task → List ℕ → HostState → HostState → Type 0
+MadeText task text old new =
+    (new.created ≡ old.created) ⊎ ((tree : Tree) × IsTreeOf text tree × MadeTree task tree old new)
+
+-- the same of the text under the input's name
+abbrev pub Makes : Command → HostState → HostState → Type 0
 Makes command old new =
     (new.created ≡ old.created)
-    ⊎ ((text : List ℕ) × (bytes : List ℕ) × (count : ℕ) × IfSome old.files (λ files. text ≡ bytes_under command.from files)
-    × (text_file command.rate text ≡ Some bytes)
-    × (new.created ≡ added (command.to, take count bytes) old.created))
+    ⊎ ((text : List ℕ) × IfSome old.files (λ files. text ≡ bytes_under command.from files) × MadeText command.task text old new)
 
--- the output could not be created, and this line was begun
-abbrev pub CreateTold : List ℕ → HostState → HostState → Type 0
-CreateTold to old new = Rose (old.creates to) (new.creates to) × FaultTold (create_line to) old new
+-- the output could not be created, and its whole line was printed
+abbrev pub CreateCause : Task → HostState → HostState → Type 0
+CreateCause check old new = ⊥
+CreateCause (render r) old new = Rose (old.creates r.to) (new.creates r.to) × (new.printed ≡ append_known old.printed (create_line r.to))
+
+-- the output could not be created, and its line was begun
+abbrev pub CreateTold : Task → HostState → HostState → Type 0
+CreateTold check old new = ⊥
+CreateTold (render r) old new = Rose (old.creates r.to) (new.creates r.to) × FaultTold (create_line r.to) old new
+
+-- the run ended as one of these outcomes
+abbrev pub EndsAs : (Outcome → Type 0) → Status → HostState → HostState → Type 0
+EndsAs Has status old new = (o : Outcome) × Has o × IsOutcome o status old new
+
+-- a first part of what one of these outcomes prints was printed, and then the line of a failed write
+abbrev pub ToldAs : (Outcome → Type 0) → HostState → HostState → Type 0
+ToldAs Has old new = (o : Outcome) × Has o × FaultTold o.printed old new
 
 -- What is printed where a write failed: a first part of the outcome's bytes, or of the line of another fault, and then
 -- the line of the write.
-abbrev pub WriteTold : Render → HostState → HostState → Type 0
+abbrev pub WriteTold : Command → HostState → HostState → Type 0
 WriteTold command old new =
-    IfSome old.files (λ files. FaultTold (text_outcome command (bytes_under command.from files)).printed old new)
+    IfSome old.files (λ files. ToldAs (HasTextOutcome command.task (bytes_under command.from files)) old new)
     ⊎ (Rose (old.opens command.from) (new.opens command.from) × FaultTold (open_line command.from) old new)
     ⊎ (Rose (old.reads command.from) (new.reads command.from) × FaultTold (read_line command.from) old new)
-    ⊎ CreateTold command.to old new
+    ⊎ CreateTold command.task old new
 
 -- The input can't be opened, or the output can't be created: the count rose, and the whole line was printed.
-abbrev pub OpenCause : Render → HostState → HostState → Type 0
+abbrev pub OpenCause : Command → HostState → HostState → Type 0
 OpenCause command old new =
     (Rose (old.opens command.from) (new.opens command.from) × (new.printed ≡ append_known old.printed (open_line command.from)))
-    ⊎ (Rose (old.creates command.to) (new.creates command.to) × (new.printed ≡ append_known old.printed (create_line command.to)))
+    ⊎ CreateCause command.task old new
 
 -- The input can't be read: the count rose, and the whole line was printed.
-abbrev pub ReadCause : Render → HostState → HostState → Type 0
+abbrev pub ReadCause : Command → HostState → HostState → Type 0
 ReadCause command old new =
     Rose (old.reads command.from) (new.reads command.from) × (new.printed ≡ append_known old.printed (read_line command.from))
 
+-- no fault was counted where a command creates its output
+abbrev pub NoCreateRose : Task → HostState → HostState → Type 0
+NoCreateRose check old new = Unit {0}
+NoCreateRose (render r) old new = Rose (old.creates r.to) (new.creates r.to) → ⊥
+
 -- no fault was counted at a write, nor at the names of a command
-abbrev pub NoneRose : Option Render → HostState → HostState → Type 0
+abbrev pub NoneRose : Option Command → HostState → HostState → Type 0
 NoneRose None old new = Rose old.writes new.writes → ⊥
 NoneRose (Some command) old new =
     (Rose (old.opens command.from) (new.opens command.from) → ⊥)
     × (Rose (old.reads command.from) (new.reads command.from) → ⊥)
-    × (Rose (old.creates command.to) (new.creates command.to) → ⊥)
+    × NoCreateRose command.task old new
     × (Rose old.writes new.writes → ⊥)
 
 -- what is printed where a write failed, also where the words are no command
-abbrev pub RunWriteTold : Option Render → HostState → HostState → Type 0
+abbrev pub RunWriteTold : Option Command → HostState → HostState → Type 0
 RunWriteTold None old new = FaultTold usage_line old new
 RunWriteTold (Some command) old new = WriteTold command old new
 
 -- a file is made only for a command
-abbrev pub RunMakes : Option Render → HostState → HostState → Type 0
+abbrev pub RunMakes : Option Command → HostState → HostState → Type 0
 RunMakes None old new = new.created ≡ old.created
 RunMakes (Some command) old new = Makes command old new

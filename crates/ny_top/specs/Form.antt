@@ -1,77 +1,76 @@
--- The texts that can be played: `play`, and then 1 to 100 constants joined by `+`.
-use Rattle.std.specs.Prelude.{ℕ, zero, suc, List, [], ◌∷◌, drop, length, Bool, ◌||◌, ◌==◌, nat_eq, Some, None, Ok, Err, if◌then◌else◌, option_and_then, option_map, take_while, ℤ, codes}
-use Rattle.std.specs.declared.option.Option.{Option}
-use Rattle.std.specs.declared.result.Result.{Result}
-use Rattle.std.specs.List.{starts_with}
-use Rattle.std.specs.Char.{is_ascii_digit}
+-- The trees that can be played: a sum of 1 to 100 constants, and nothing declared.
+use Rattle.std.specs.Prelude.{List, [], ◌∷◌, ◌++◌, length, nat_le, nat_eq, Option, Some, None, if◌then◌else◌, option_and_then, option_map, ℤ, codes}
+use Rattle.std.specs.Cmp.Lexicographic.{pointwise}
 use Rattle.ny_num.specs.Numbers.{fix_neg}
-use Rattle.ny_num.specs.Decimal.{is_point, decimal_of}
-use Rattle.ny_num.specs.declared.decimal.NumFault.{NumFault}
-use Rattle.ny_top.specs.declared.form.Written.{Written}
+use Rattle.ny_syntax.specs.declared.tree.Name.{Name}
+use Rattle.ny_syntax.specs.declared.tree.Expr.{Expr}
+use Rattle.ny_syntax.specs.declared.tree.Decl.{Decl}
+use Rattle.ny_syntax.specs.declared.tree.Tree.{Tree}
+use Rattle.ny_syntax.specs.declared.tree.BinOp.TheVariants as ops
+use Rattle.ny_syntax.specs.declared.tree.PreOp.TheVariants as before
+use Rattle.ny_syntax.specs.declared.tree.Form.TheFolds.{fold-Expr}
+use Rattle.ny_syntax.specs.declared.tree.Form.TheOpen.{Form-F, Expr-F, Bind-F}
+use Rattle.ny_top.specs.declared.constant.Written.{Written}
 
--- a space, a tab, a carriage return or a line feed
-abbrev pub is_blank : ℕ → Bool
-is_blank byte = byte == 32 || byte == 9 || byte == 13 || byte == 10
+-- What an expression is as a part of a sum, each none where it is no such part: a literal; a literal that may have one minus
+-- before it; a constant; constants that were added from the left.
+pub record Part : Type 0 where
+  pub literal : Option ℤ
+  pub value : Option ℤ
+  pub constant : Option Written
+  pub sum : Option (List Written)
 
--- the bytes that pass, as far as they go
-abbrev pub after_run : (ℕ → Bool) → List ℕ → List ℕ
-after_run test text = drop (length (take_while test text)) text
+-- no part of a sum
+abbrev pub no_part : Part
+no_part = record { literal = None; value = None; constant = None; sum = None }
 
--- the text from its first byte that is no blank
-unfoldable pub past_blanks : List ℕ → List ℕ
-past_blanks text = after_run is_blank text
+abbrev pub literal_part : ℤ → Part
+literal_part v = record { literal = Some v; value = Some v; constant = None; sum = None }
 
--- what follows a token that comes next, blanks before it passed over; none where another comes
-unfoldable pub past : List ℕ → List ℕ → Option (List ℕ)
-past token text =
-    if starts_with nat_eq (past_blanks text) token then Some (drop (length token) (past_blanks text)) else None
+abbrev pub minus_part : Part → Part
+minus_part e = record { literal = None; value = option_map fix_neg e.literal; constant = None; sum = None }
 
--- a digit or a point
-abbrev pub is_decimal_byte : ℕ → Bool
-is_decimal_byte byte = is_ascii_digit byte || is_point byte
+-- a constant, which is also a sum of one
+abbrev pub constant_part : Option Written → Part
+constant_part constant = record { literal = None; value = None; constant = constant; sum = option_map (λ c. c ∷ []) constant }
 
--- a number, in millionths, and what follows it; none where it is no decimal
-abbrev pub number_before : List ℕ → Result ℤ NumFault → Option (ℤ × List ℕ)
-number_before rest (Ok value) = Some (value, rest)
-number_before rest (Err fault) = None
+-- `const` of a value and of a literal of seconds
+abbrev pub written_constant : Name → Part → Part → Option Written
+written_constant name value seconds =
+    if pointwise nat_eq name.bytes (codes "const") then
+    option_and_then (λ v. option_map (λ s. record { value = v; seconds = s }) seconds.literal) value.value
+    else None
 
--- the number that comes next, its digits and point as far as they go
-unfoldable pub decimal_after : List ℕ → Option (ℤ × List ℕ)
-decimal_after text =
-    let here = past_blanks text in
-    number_before (after_run is_decimal_byte here) (decimal_of (take_while is_decimal_byte here))
+-- a sum and one constant more
+abbrev pub added_part : Part → Part → Part
+added_part sum constant =
+    record { literal = None; value = None; constant = None; sum = option_and_then (λ before. option_map (λ c. before ++ c ∷ []) constant.constant) sum.sum }
 
--- the number with the other sign
-abbrev pub negated : ℤ × List ℕ → ℤ × List ℕ
-negated number = (fix_neg number.0, number.1)
+abbrev pub form_part : Form-F Part Part Part → Part
+form_part (Form-F.Number v) = literal_part v
+form_part (Form-F.Prefix before.Minus e) = minus_part e
+form_part (Form-F.Call name (value ∷ seconds ∷ [])) = constant_part (written_constant name value seconds)
+form_part (Form-F.Binary ops.Add a b) = added_part a b
+form_part _ = no_part
 
--- a minus, if one comes next, and then a number
-abbrev pub signed_after : List ℕ → Option (ℤ × List ℕ)
-signed_after text = signed (past (codes "-") text) text
+abbrev pub bind_part : Bind-F Part Part Part → Part
+bind_part b = no_part
+
+abbrev pub expr_part : Expr-F Part Part Part → Part
+expr_part e = e.form
+
+abbrev pub part_of : Expr → Part
+part_of = fold-Expr Part Part Part form_part bind_part expr_part
+
+-- the constants of a sum, 100 at most
+abbrev pub played_sum : Option Expr → Option (List Written)
+played_sum None = None
+played_sum (Some e) = option_and_then (λ constants. if nat_le (length constants) 100 then Some constants else None) (part_of e).sum
+
+-- the constants of a tree; none where it can't be played yet
+unfoldable pub form_of : Tree → Option (List Written)
+form_of tree = declared tree.decls (played_sum tree.play)
   where
-    signed : Option (List ℕ) → List ℕ → Option (ℤ × List ℕ)
-    signed None text = decimal_after text
-    signed (Some rest) text = option_map negated (decimal_after rest)
-
--- `const ( V , D )`, and what follows it
-unfoldable pub constant_after : List ℕ → Option (Written × List ℕ)
-constant_after text =
-    option_and_then (λ name. option_and_then (λ bracket. option_and_then (λ value. option_and_then (λ comma.
-    option_and_then (λ seconds. option_map (λ rest. (record { value = value.0; seconds = seconds.0 }, rest))
-    (past (codes ")") seconds.1)) (decimal_after comma)) (past (codes ",") value.1)) (signed_after bracket))
-    (past (codes "(") name)) (past (codes "const") text)
-
--- a constant, and then the end of the text or `+` and others
-abbrev pub with_others : (List ℕ → Option (List Written)) → Written × List ℕ → Option (List Written)
-with_others others (constant, rest) =
-    if length (past_blanks rest) == 0 then Some (constant ∷ [])
-    else option_map (λ more. constant ∷ more) (option_and_then others (past (codes "+") rest))
-
--- at most so many constants joined by `+`, to the end of the text
-unfoldable pub constants_in : ℕ → List ℕ → Option (List Written)
-constants_in zero text = None
-constants_in (suc left) text = option_and_then (with_others (constants_in left)) (constant_after text)
-
--- the constants of a text; none where it is not of this form
-unfoldable pub form_of : List ℕ → Option (List Written)
-form_of text = option_and_then (λ rest. if length (take_while is_blank rest) == 0 then None else constants_in 100 rest) (past (codes "play") text)
+    declared : List Decl → Option (List Written) → Option (List Written)
+    declared [] sum = sum
+    declared (decl ∷ decls) sum = None

@@ -1,7 +1,8 @@
 pub mod Channel
 pub mod Ends
-pub mod Form
 pub mod Outcome
+pub mod Reading
 pub mod Runs
-pub mod Words
+pub mod Form
 pub mod Views
+pub mod Words

@@ -1,9 +1,13 @@
 -- What a run does over a host that never fails.
-use Rattle.std.specs.Prelude.{ℕ, List, [], ◌∷◌, ◌++◌, length, Some, None, if◌then◌else◌, nat_lt, codes}
+use Rattle.std.specs.Prelude.{◌≡◌, ℕ, ◌≤◌, ◌<◌, ◌⊎◌, List, [], ◌∷◌, ◌++◌, length, Some, None, codes}
 use Rattle.std.specs.declared.option.Option.{Option}
 use Rattle.ny_io.specs.Host.{Named, bytes_under}
-use Rattle.ny_top.specs.Channel.{text_file}
-use Rattle.ny_top.specs.Words.{Render, read_words}
+use Rattle.ny_syntax.specs.declared.tree.Tree.{Tree}
+use Rattle.ny_syntax.specs.Canonical.{canonical_text}
+use Rattle.ny_top.specs.declared.reading.Refusal.{Refusal}
+use Rattle.ny_top.specs.Reading.{IsTreeOf, IsRefusal, refusal_text}
+use Rattle.ny_top.specs.Channel.{tree_file}
+use Rattle.ny_top.specs.Words.{Task, Command, render, check, read_words}
 use Rattle.ny_top.specs.declared.status.Status.{Status}
 use Rattle.ny_top.specs.declared.status.Status.TheVariants.{Ok, Usage, OpenFault, ReadFault, WriteFault, Refused, PoolFull, OutOfMemory}
 
@@ -57,21 +61,40 @@ pub record Outcome : Type 0 where
 abbrev pub refused : List ℕ → Outcome
 refused line = record { status = Refused; file = None; printed = line }
 
--- the outcome for the file of a text, or for a text that has none
+-- the outcome for the file of a tree, or for a tree that can't be played yet
 abbrev pub file_outcome : List ℕ → Option (List ℕ) → Outcome
 file_outcome to None = refused form_line
 file_outcome to (Some bytes) = record { status = Ok; file = Some (to, bytes); printed = [] }
 
+-- the outcome for a tree
+abbrev pub tree_outcome : Task → Tree → Outcome
+tree_outcome (render r) tree = file_outcome r.to (tree_file r.rate tree)
+tree_outcome check tree = record { status = Ok; file = None; printed = canonical_text tree }
+
+-- the outcome for a text that is not too long: that of its tree, or its refusal
+abbrev pub HasReadOutcome : Task → List ℕ → Outcome → Type 0
+HasReadOutcome task text o =
+    ((refusal : Refusal) × IsRefusal text refusal × (o ≡ refused (refusal_text refusal)))
+    ⊎ ((tree : Tree) × IsTreeOf text tree × (o ≡ tree_outcome task tree))
+
 -- the outcome for a text
-abbrev pub text_outcome : Render → List ℕ → Outcome
-text_outcome command text =
-    if nat_lt most (length text) then refused too_long_line else file_outcome command.to (text_file command.rate text)
+abbrev pub HasTextOutcome : Task → List ℕ → Outcome → Type 0
+HasTextOutcome task text o =
+    ((most < length text) × (o ≡ refused too_long_line)) ⊎ ((length text ≤ most) × HasReadOutcome task text o)
+
+-- the outcome where the words are no command
+abbrev pub usage_outcome : Outcome
+usage_outcome = record { status = Usage; file = None; printed = usage_line }
 
 -- the outcome for a command, over files
-abbrev pub command_outcome : Option Render → List Named → Outcome
-command_outcome None files = record { status = Usage; file = None; printed = usage_line }
-command_outcome (Some command) files = text_outcome command (bytes_under command.from files)
+abbrev pub HasCommandOutcome : Option Command → List Named → Outcome → Type 0
+HasCommandOutcome None files o = o ≡ usage_outcome
+HasCommandOutcome (Some command) files o = HasTextOutcome command.task (bytes_under command.from files) o
 
 -- the outcome for words, over files
-abbrev pub outcome : List (List ℕ) → List Named → Outcome
-outcome words files = command_outcome (read_words words) files
+abbrev pub HasOutcome : List (List ℕ) → List Named → Outcome → Type 0
+HasOutcome words files o = HasCommandOutcome (read_words words) files o
+
+-- the text of the command is refused
+abbrev pub IsRefused : Option Command → List Named → Type 0
+IsRefused command files = (o : Outcome) × HasCommandOutcome command files o × (o.status ≡ Refused)

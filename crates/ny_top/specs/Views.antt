@@ -1,7 +1,13 @@
 -- A command of the program, as what it asks for.
-use Rattle.ny_top.specs.Words.{Render as Command}
-use Rattle.ny_top.specs.declared.words.Render.{Render}
+use Rattle.ny_top.specs.Words.{Task as TaskView, Command as CommandView, render, check, command_of}
+use Rattle.ny_top.specs.declared.words.Task.{Task}
+use Rattle.ny_top.specs.declared.words.Task.TheVariants as tasks
+use Rattle.ny_top.specs.declared.words.Command.{Command}
 
--- what it asks for, without the places where its names stand
-abbrev pub render_view : Render → Command
-render_view command = record { from = command.input.now; to = command.output.now; block = command.block; rate = command.rate }
+-- what is asked for, without the places where names stand
+abbrev pub task_view : Task → TaskView
+task_view (tasks.Render r) = render (record { to = r.output.now; block = r.block; rate = r.rate })
+task_view tasks.Check = check
+
+abbrev pub command_view : Command → CommandView
+command_view command = command_of command.input.now (task_view command.task)

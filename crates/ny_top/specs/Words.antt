@@ -52,19 +52,34 @@ with_options options [] = Some options
 with_options options (name ∷ []) = None
 with_options options (name ∷ value ∷ more) = option_and_then (λ next. with_options next more) (with_option options name value)
 
--- what `render` is asked for: the names of its input and its output, the block length and the rate
+-- what `render` is asked for: the name of its output, the block length and the rate
 pub record Render : Type 0 where
-  pub from : List ℕ
   pub to : List ℕ
   pub block : ℕ
   pub rate : Rate
 
+-- what is asked for with a text
+pub data Task : Type 0 where
+  -- to write its file
+  render : Render → Task
+  -- to print its canonical text
+  check : Task
+
+-- the name of a text, and what is asked for with it
+pub record Command : Type 0 where
+  pub from : List ℕ
+  pub task : Task
+
 -- `render` with these options, and what stands for those that were not given
-abbrev pub render_of : List ℕ → List ℕ → Options → Render
-render_of from to options = record { from = from; to = to; block = unwrap_or options.block 1024; rate = unwrap_or options.rate R44100 }
+abbrev pub render_of : List ℕ → Options → Task
+render_of to options = render (record { to = to; block = unwrap_or options.block 1024; rate = unwrap_or options.rate R44100 })
+
+abbrev pub command_of : List ℕ → Task → Command
+command_of from task = record { from = from; task = task }
 
 -- the command of the words; none where they are no command
-abbrev pub read_words : List (List ℕ) → Option Render
+abbrev pub read_words : List (List ℕ) → Option Command
+read_words (command ∷ from ∷ []) = if is_word command (codes "check") then Some (command_of from check) else None
 read_words (command ∷ from ∷ to ∷ options) =
-    if is_word command (codes "render") then option_map (render_of from to) (with_options no_options options) else None
+    if is_word command (codes "render") then option_map (λ given. command_of from (render_of to given)) (with_options no_options options) else None
 read_words _ = None

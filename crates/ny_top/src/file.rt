@@ -3,7 +3,7 @@ ghost use Rattle.std.specs.Io.KnownBytes.{append_known};
 ghost use Rattle.ny_io.specs.Faults.{Rose};
 ghost use Rattle.ny_io.specs.Host.{NoneFell, written, added};
 ghost use Rattle.ny_top.specs.Outcome.{create_line};
-ghost use Rattle.ny_top.specs.Ends.{FaultTold, MadePart, CreateTold};
+ghost use Rattle.ny_top.specs.Ends.{FaultTold, MadePart};
 
 use crate::ends::{end_at, tell_fault};
 use crate::status::Status;
@@ -43,7 +43,7 @@ pub(crate) fn write_file<H: Host>(
     ensures create { result ≡ Status.OpenFault → Rose ((H.state host.old).creates to.now) ((H.state host.new).creates to.now)
         × ((H.state host.new).printed ≡ append_known (H.state host.old).printed (create_line to.now)) }
     ensures write { result ≡ Status.WriteFault → Rose (H.state host.old).writes (H.state host.new).writes }
-    ensures told { result ≡ Status.WriteFault → FaultTold [] (H.state host.old) (H.state host.new) ⊎ CreateTold to.now (H.state host.old) (H.state host.new) }
+    ensures told { result ≡ Status.WriteFault → FaultTold [] (H.state host.old) (H.state host.new) ⊎ (Rose ((H.state host.old).creates to.now) ((H.state host.new).creates to.now) × FaultTold (create_line to.now) (H.state host.old) (H.state host.new)) }
     ensures memory { result ≡ Status.OutOfMemory → (H.state host.new).printed ≡ (H.state host.old).printed }
     ensures part { MadePart to.now (header.now ++ frames.now) (H.state host.old) (H.state host.new) }
 {

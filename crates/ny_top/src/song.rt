@@ -1,12 +1,13 @@
 ghost use Rattle.std.specs.Prelude.{◌≡◌, ◌≤◌, ◌*◌, ◌++◌, None, Some, length, IfOk, MatchOption};
 ghost use Rattle.ny_num.specs.Grid.{last_index};
 ghost use Rattle.ny_wav.specs.WavFile.{wav_of, header_of, frame_of};
-ghost use Rattle.ny_top.specs.Channel.{longest, channel_of, mono, file_of, text_file};
+ghost use Rattle.ny_top.specs.Channel.{longest, channel_of, mono, file_of, tree_file};
 
-use crate::form::{Written, read_form};
+use crate::form::read_form;
 use crate::sum::channel;
 use crate::term::{Term, terms};
 use ny_num::{Rate, Sample};
+use ny_syntax::Tree;
 use ny_wav::{frame_bytes, header};
 use std::alloc::{AllocError, Global};
 
@@ -40,14 +41,14 @@ fn sum_file(alloc: Global, rate: Rate, terms: &[Term]) -> Result<Wav, AllocError
     })
 }
 
-/// The file of a text; none where the text can't be played.
-#[tactic(auto, unfolding(crate::specs::Channel::file_of, crate::specs::Channel::text_file))]
-pub(crate) fn song(alloc: Global, rate: Rate, text: &[u8]) -> Result<Option<Wav>, AllocError>
+/// The file of a tree; none where the tree can't be played yet.
+#[tactic(auto, unfolding(crate::specs::Channel::file_of, crate::specs::Channel::tree_file))]
+pub(crate) fn song(alloc: Global, rate: Rate, tree: &Tree) -> Result<Option<Wav>, AllocError>
     ensures { IfOk result (λ song. MatchOption song
-        (text_file rate text.now ≡ None)
-        (λ wav. text_file rate text.now ≡ Some (wav.header ++ wav.frames.items))) }
+        (tree_file rate tree.now ≡ None)
+        (λ wav. tree_file rate tree.now ≡ Some (wav.header ++ wav.frames.items))) }
 {
-    let Some(written) = read_form(alloc, text)? else {
+    let Some(written) = read_form(alloc, tree)? else {
         return Ok(None);
     };
     let terms = terms(alloc, rate, &written)?;

@@ -2,7 +2,7 @@ ghost use Rattle.std.specs.Prelude.{◌≡◌, ◌≤◌, map, IfOk};
 ghost use Rattle.ny_num.specs.Grid.{last_index};
 ghost use Rattle.ny_top.specs.Channel.{term_of, longest};
 
-use crate::form::Written;
+use crate::constant::Written;
 use ny_num::{Rate, Sample, index, ticks_of};
 use std::alloc::{AllocError, Global};
 

@@ -1,37 +1,95 @@
 ghost use Rattle.std.specs.Prelude.{◌≡◌, ◌≢◌, ◌≤◌, ◌⊎◌, length, IsTrue};
 ghost use Rattle.std.specs.Io.KnownBytes.{append_known};
 ghost use Rattle.ny_io.specs.Faults.{Rose};
-ghost use Rattle.ny_io.specs.Host.{NoneFell};
-ghost use Rattle.ny_top.specs.Outcome.{most, text_outcome, create_line};
-ghost use Rattle.ny_top.specs.Ends.{FaultTold, MadeOf, CreateTold, IsOutcome, is_whole};
-ghost use Rattle.ny_top.specs.Views.{render_view};
+ghost use Rattle.ny_io.specs.Host.{NoneFell, SameOutput};
+ghost use Rattle.ny_syntax.specs.Grammar.{height_limit};
+ghost use Rattle.ny_syntax.specs.Canonical.{canonical_height, canonical_text};
+ghost use Rattle.ny_top.specs.Reading.{refusal_text};
+ghost use Rattle.ny_top.specs.Outcome.{HasReadOutcome, tree_outcome, refused};
+ghost use Rattle.ny_top.specs.Ends.{FaultTold, ToldAs, EndsAs, MadeTree, MadeText, CreateCause, CreateTold, IsOutcome, is_whole};
+ghost use Rattle.ny_top.specs.Views.{task_view};
 
 use crate::ends::finish;
-use crate::file::write_file;
-use crate::song::song;
+use crate::play::play;
+use crate::reading::{Refusal, TextFault, line_of, read_tree};
 use crate::status::Status;
-use crate::words::Render;
+use crate::words::Task;
 use ny_io::Host;
+use ny_syntax::{Tree, canonical};
 use std::alloc::Global;
 
-/// Plays a text that was read whole.
-pub(crate) fn run_text<H: Host>(alloc: Global, host: &mut H, command: Render, text: &[u8]) -> Status
-    requires { length text.now ≤ most }
+/// Ends a run with the line of a refusal.
+fn refuse<H: Host>(alloc: Global, host: &mut H, refusal: Refusal) -> Status
+    ensures counts { NoneFell (H.state host.old) (H.state host.new) }
+    ensures output { SameOutput (H.state host.old) (H.state host.new) }
+    ensures files { (H.state host.new).files ≡ (H.state host.old).files }
+    ensures status { (result ≡ Status.Refused) ⊎ (result ≡ Status.WriteFault) ⊎ (result ≡ Status.OutOfMemory) }
+    ensures whole { IsTrue (is_whole result) → IsOutcome (refused (refusal_text refusal)) result (H.state host.old) (H.state host.new) }
+    ensures rose { result ≡ Status.WriteFault → Rose (H.state host.old).writes (H.state host.new).writes }
+    ensures fault { result ≡ Status.WriteFault → FaultTold (refusal_text refusal) (H.state host.old) (H.state host.new) }
+    ensures memory { result ≡ Status.OutOfMemory → (H.state host.new).printed ≡ (H.state host.old).printed }
+{
+    match line_of(alloc, refusal) {
+        Ok(line) => finish(host, Status::Refused, &line),
+        Err(_) => Status::OutOfMemory,
+    }
+}
+
+/// Prints the canonical text of a tree.
+fn print_canonical<H: Host>(alloc: Global, host: &mut H, tree: &Tree) -> Status
+    requires { canonical_height tree.now ≤ height_limit }
+    ensures counts { NoneFell (H.state host.old) (H.state host.new) }
+    ensures output { SameOutput (H.state host.old) (H.state host.new) }
+    ensures files { (H.state host.new).files ≡ (H.state host.old).files }
+    ensures status { (result ≡ Status.Ok) ⊎ (result ≡ Status.WriteFault) ⊎ (result ≡ Status.OutOfMemory) }
+    ensures whole { result ≡ Status.Ok → (H.state host.new).printed ≡ append_known (H.state host.old).printed (canonical_text tree.now) }
+    ensures rose { result ≡ Status.WriteFault → Rose (H.state host.old).writes (H.state host.new).writes }
+    ensures fault { result ≡ Status.WriteFault → FaultTold (canonical_text tree.now) (H.state host.old) (H.state host.new) }
+    ensures memory { result ≡ Status.OutOfMemory → (H.state host.new).printed ≡ (H.state host.old).printed }
+{
+    match canonical(alloc, tree) {
+        Ok(text) => finish(host, Status::Ok, &text),
+        Err(_) => Status::OutOfMemory,
+    }
+}
+
+/// Does what is asked for with a tree.
+fn run_tree<H: Host>(alloc: Global, host: &mut H, task: Task, tree: &Tree) -> Status
+    requires { canonical_height tree.now ≤ height_limit }
     ensures counts { NoneFell (H.state host.old) (H.state host.new) }
     ensures files { (H.state host.new).files ≡ (H.state host.old).files }
     ensures status { (result ≢ Status.Usage) × (result ≢ Status.ReadFault) × (result ≢ Status.PoolFull) }
-    ensures whole { IsTrue (is_whole result) → IsOutcome (text_outcome (render_view command.entry) text.now) result (H.state host.old) (H.state host.new) }
-    ensures create { result ≡ Status.OpenFault → Rose ((H.state host.old).creates (render_view command.entry).to) ((H.state host.new).creates (render_view command.entry).to)
-        × ((H.state host.new).printed ≡ append_known (H.state host.old).printed (create_line (render_view command.entry).to)) }
+    ensures whole { IsTrue (is_whole result) → IsOutcome (tree_outcome (task_view task.entry) tree.now) result (H.state host.old) (H.state host.new) }
+    ensures create { result ≡ Status.OpenFault → CreateCause (task_view task.entry) (H.state host.old) (H.state host.new) }
     ensures write { result ≡ Status.WriteFault → Rose (H.state host.old).writes (H.state host.new).writes }
-    ensures told { result ≡ Status.WriteFault → FaultTold (text_outcome (render_view command.entry) text.now).printed (H.state host.old) (H.state host.new)
-        ⊎ CreateTold (render_view command.entry).to (H.state host.old) (H.state host.new) }
+    ensures told { result ≡ Status.WriteFault → FaultTold (tree_outcome (task_view task.entry) tree.now).printed (H.state host.old) (H.state host.new)
+        ⊎ CreateTold (task_view task.entry) (H.state host.old) (H.state host.new) }
     ensures memory { result ≡ Status.OutOfMemory → (H.state host.new).printed ≡ (H.state host.old).printed }
-    ensures part { MadeOf (render_view command.entry) text.now (H.state host.old) (H.state host.new) }
+    ensures part { MadeTree (task_view task.entry) tree.now (H.state host.old) (H.state host.new) }
 {
-    match song(alloc, command.rate, text) {
-        Ok(Some(wav)) => write_file(alloc, host, command.output, &wav.header, &wav.frames),
-        Ok(None) => finish(host, Status::Refused, b"refused: form\n"),
-        Err(_) => Status::OutOfMemory,
+    match task {
+        Task::Render(render) => play(alloc, host, render, tree),
+        Task::Check => print_canonical(alloc, host, tree),
+    }
+}
+
+/// Does what is asked for with a text that was read whole.
+pub(crate) fn run_text<H: Host>(alloc: Global, host: &mut H, task: Task, text: &[u8]) -> Status
+    requires { length text.now ≤ 1048576 }
+    ensures counts { NoneFell (H.state host.old) (H.state host.new) }
+    ensures files { (H.state host.new).files ≡ (H.state host.old).files }
+    ensures status { (result ≢ Status.Usage) × (result ≢ Status.ReadFault) × (result ≢ Status.PoolFull) }
+    ensures whole { IsTrue (is_whole result) → EndsAs (HasReadOutcome (task_view task.entry) text.now) result (H.state host.old) (H.state host.new) }
+    ensures create { result ≡ Status.OpenFault → CreateCause (task_view task.entry) (H.state host.old) (H.state host.new) }
+    ensures write { result ≡ Status.WriteFault → Rose (H.state host.old).writes (H.state host.new).writes }
+    ensures told { result ≡ Status.WriteFault → ToldAs (HasReadOutcome (task_view task.entry) text.now) (H.state host.old) (H.state host.new)
+        ⊎ CreateTold (task_view task.entry) (H.state host.old) (H.state host.new) }
+    ensures memory { result ≡ Status.OutOfMemory → (H.state host.new).printed ≡ (H.state host.old).printed }
+    ensures part { MadeText (task_view task.entry) text.now (H.state host.old) (H.state host.new) }
+{
+    match read_tree(alloc, text) {
+        Ok(tree) => run_tree(alloc, host, task, &tree),
+        Err(TextFault::Refused(refusal)) => refuse(alloc, host, refusal),
+        Err(TextFault::OutOfMemory) => Status::OutOfMemory,
     }
 }

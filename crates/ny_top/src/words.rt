@@ -2,18 +2,34 @@ ghost use Rattle.std.specs.Prelude.{◌≡◌, ◌≤◌, ◌<◌, ◌+◌, ◌^
 ghost use Rattle.std.specs.List.{list_all};
 ghost use Rattle.std.specs.Char.{is_ascii_digit};
 ghost use Rattle.ny_num.specs.Decimal.{number_of};
-ghost use Rattle.ny_top.specs.Words.{number_word, block_length, rate_with, with_option, with_options, no_options, render_of, read_words};
+ghost use Rattle.ny_top.specs.Words.{number_word, block_length, rate_with, with_option, with_options, no_options, read_words};
+ghost use Rattle.ny_top.specs.Views.{command_view};
 
 use ny_num::Rate;
 
-/// What `render` is asked for: the names of its input and its output, the block length in samples
-/// and the sample rate.
+/// What `render` is asked for: the name of its output, the block length in samples and the sample
+/// rate.
 #[derive(Clone, Copy)]
 pub(crate) struct Render<'a> {
-    pub(crate) input: &'a str,
     pub(crate) output: &'a str,
     pub(crate) block: u32,
     pub(crate) rate: Rate,
+}
+
+/// What is asked for with a text.
+#[derive(Clone, Copy)]
+pub(crate) enum Task<'a> {
+    /// To write its file.
+    Render(Render<'a>),
+    /// To print its canonical text.
+    Check,
+}
+
+/// The name of a text, and what is asked for with it.
+#[derive(Clone, Copy)]
+pub(crate) struct Command<'a> {
+    pub(crate) input: &'a str,
+    pub(crate) task: Task<'a>,
 }
 
 /// The options that were given so far.
@@ -125,19 +141,25 @@ fn read_options(words: &[String]) -> Option<Options>
 }
 
 /// What the words ask for; none where they are no command (`docs/LANGUAGE.md`, "The command line").
-pub(crate) fn command(words: &[String]) -> Option<Render<'_>>
+pub(crate) fn read_command(words: &[String]) -> Option<Command<'_>>
     ensures { MatchOption result
         (read_words (map string_bytes words.now) ≡ None)
-        (λ command. read_words (map string_bytes words.now) ≡ Some (record { from = command.input.now; to = command.output.now; block = command.block; rate = command.rate })) }
+        (λ command. read_words (map string_bytes words.now) ≡ Some (command_view command)) }
 {
     match words {
+        [name, input] if name.as_str() == "check" => Some(Command {
+            input: input.as_str(),
+            task: Task::Check,
+        }),
         [name, input, output, rest @ ..] if name.as_str() == "render" => {
             let options = read_options(rest)?;
-            Some(Render {
+            Some(Command {
                 input: input.as_str(),
-                output: output.as_str(),
-                block: options.block.unwrap_or(DEFAULT_BLOCK),
-                rate: options.rate.unwrap_or(DEFAULT_RATE),
+                task: Task::Render(Render {
+                    output: output.as_str(),
+                    block: options.block.unwrap_or(DEFAULT_BLOCK),
+                    rate: options.rate.unwrap_or(DEFAULT_RATE),
+                }),
             })
         }
         _ => None,

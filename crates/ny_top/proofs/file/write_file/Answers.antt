@@ -1,5 +1,5 @@
 use Rattle.std.proofs.Common.{rules, inl, inr, ◌++◌}
-use Rattle.ny_top.proofs.Faults.{told_alone, told_from}
+use Rattle.ny_top.proofs.FaultLines.{told_alone, told_from}
 use Rattle.ny_top.proofs.Parts.{made_part, made_whole, made_after}
 use Rattle.ny_top.specs.Outcome.{create_line}
 use Rattle.ny_top.proofs.file.write_file.Goals as goal

@@ -1,0 +1,66 @@
+-- A text has one outcome at most, so words have one over the same files.
+use Rattle.std.proofs.Common.{◌≡◌, ℕ, List, length, sym, subst, ap, ◌∙◌, arith, None, Some, inl, inr}
+use Rattle.std.specs.declared.option.Option.{Option}
+use Rattle.ny_io.specs.Host.{Named, bytes_under}
+use Rattle.ny_syntax.specs.declared.token.Token.{Token}
+use Rattle.ny_syntax.specs.declared.tree.Tree.{Tree}
+use Rattle.ny_syntax.specs.Grammar.{HasTree}
+use Rattle.ny_lex.specs.Spelling.{HasTokens}
+use Rattle.ny_lex.proofs.Tokens.{spells-unique, unreadable-no_tokens, unreadable-unique}
+use Rattle.ny_parse.specs.Prefix.{StopsAt}
+use Rattle.ny_parse.proofs.OneTree.{one_tree as tree-unique}
+use Rattle.ny_parse.proofs.OnePlace.{stops-no_tree, stops-unique}
+use Rattle.ny_top.specs.declared.reading.Refusal.{Refusal}
+use Rattle.ny_top.specs.declared.reading.Refusal.TheVariants.{Lex, Parse}
+use Rattle.ny_top.specs.Words.{Task, Command}
+use Rattle.ny_top.specs.Reading.{IsTreeOf, IsRefusal, refusal_text}
+use Rattle.ny_top.specs.Outcome.{Outcome, refused, tree_outcome, HasReadOutcome, HasTextOutcome, HasCommandOutcome}
+
+same_tokens : (text : List ℕ) (tokens others : List Token) → HasTokens text tokens → HasTokens text others → others ≡ tokens
+same_tokens text tokens others spelled again = spells-unique (length text) text tokens others spelled again
+
+-- a text has one tree at most
+one_tree : (text : List ℕ) (tree other : Tree) → IsTreeOf text tree → IsTreeOf text other → other ≡ tree
+one_tree text tree other (tokens, spelled, has) (others, respelled, again) =
+    let P : List Token → Type 0 = λ ts. HasTree text ts other in
+    tree-unique text tokens tree other has (subst P (same_tokens text tokens others spelled respelled) again)
+
+one_place : (text : List ℕ) (at other : ℕ) (tokens others : List Token) → HasTokens text tokens → StopsAt text tokens at
+    → HasTokens text others → StopsAt text others other → other ≡ at
+one_place text at other tokens others spelled stops respelled again =
+    let P : List Token → Type 0 = λ ts. StopsAt text ts other in
+    stops-unique text tokens at other stops (subst P (same_tokens text tokens others spelled respelled) again)
+
+-- a text is refused in one way at most
+one_refusal : (text : List ℕ) (a b : Refusal) → IsRefusal text a → IsRefusal text b → b ≡ a
+one_refusal text (Lex at why) (Lex other other_why) is again =
+    let same : (at ≡ other) × (why ≡ other_why) = unreadable-unique text at other why other_why is again in
+    ap (λ place. Lex place other_why) (sym same.0) ∙ ap (λ cause. Lex at cause) (sym same.1)
+one_refusal text (Lex at why) (Parse other) is (tokens, spelled, stops) = absurd (unreadable-no_tokens text at why is tokens spelled)
+one_refusal text (Parse at) (Lex other why) (tokens, spelled, stops) is = absurd (unreadable-no_tokens text other why is tokens spelled)
+one_refusal text (Parse at) (Parse other) (tokens, spelled, stops) (others, respelled, again) =
+    ap Parse (one_place text at other tokens others spelled stops respelled again)
+
+-- no text that has a tree is refused
+refusal_or_tree : (text : List ℕ) (a : Refusal) (tree : Tree) → IsRefusal text a → IsTreeOf text tree → ⊥
+refusal_or_tree text (Lex at why) tree is (tokens, spelled, has) = unreadable-no_tokens text at why is tokens spelled
+refusal_or_tree text (Parse at) tree (tokens, spelled, stops) (others, respelled, has) =
+    let P : List Token → Type 0 = λ ts. HasTree text ts tree in
+    stops-no_tree text tokens at tree stops (subst P (same_tokens text tokens others spelled respelled) has)
+
+one_read : (task : Task) (text : List ℕ) (o p : Outcome) → HasReadOutcome task text o → HasReadOutcome task text p → p ≡ o
+one_read task text o p (inl (a, is, o_is)) (inl (b, again, p_is)) = p_is ∙ ap (λ r. refused (refusal_text r)) (one_refusal text a b is again) ∙ sym o_is
+one_read task text o p (inl (a, is, o_is)) (inr (tree, again, p_is)) = absurd (refusal_or_tree text a tree is again)
+one_read task text o p (inr (tree, is, o_is)) (inl (b, again, p_is)) = absurd (refusal_or_tree text b tree again is)
+one_read task text o p (inr (tree, is, o_is)) (inr (other, again, p_is)) = p_is ∙ ap (tree_outcome task) (one_tree text tree other is again) ∙ sym o_is
+
+one_text : (task : Task) (text : List ℕ) (o p : Outcome) → HasTextOutcome task text o → HasTextOutcome task text p → p ≡ o
+one_text task text o p (inl (long, o_is)) (inl (again, p_is)) = p_is ∙ sym o_is
+one_text task text o p (inl (long, o_is)) (inr (short, has)) = absurd (omega (arith, long, short))
+one_text task text o p (inr (short, has)) (inl (long, p_is)) = absurd (omega (arith, long, short))
+one_text task text o p (inr (short, has)) (inr (again, other)) = one_read task text o p has other
+
+-- a command has one outcome at most
+pub one_outcome : (asked : Option Command) (files : List Named) (o p : Outcome) → HasCommandOutcome asked files o → HasCommandOutcome asked files p → p ≡ o
+one_outcome None files o p is again = again ∙ sym is
+one_outcome (Some command) files o p is again = one_text command.task (bytes_under command.from files) o p is again

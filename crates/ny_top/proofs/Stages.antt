@@ -1,0 +1,116 @@
+-- What a stage of a run says of the states round it, by what the next stage says.
+use Rattle.std.proofs.Common.{◌≡◌, ℕ, ◌≤◌, ◌<◌, ◌⊎◌, List, length, take, refl, sym, subst, ap, ◌∙◌, arith, None, Some, IfSome, inl, inr}
+use Rattle.std.specs.declared.option.Option.{Option}
+use Rattle.std.specs.Io.KnownBytes.{append_known}
+use Rattle.ny_io.specs.Faults.{Rose}
+use Rattle.ny_io.specs.Host.{HostState, Named, NoneFell, bytes_under, added}
+use Rattle.ny_syntax.specs.declared.tree.Tree.{Tree}
+use Rattle.ny_top.specs.declared.status.Status.{Status}
+use Rattle.ny_top.specs.Words.{Task, Command, render, check, read_words}
+use Rattle.ny_top.specs.Outcome.{Outcome, most, refused, too_long_line, create_line, usage_outcome, HasReadOutcome, HasTextOutcome, HasCommandOutcome, HasOutcome}
+use Rattle.ny_top.specs.Ends.{made, IsOutcome, EndsAs, ToldAs, FaultTold, WriteTold, CreateTold, MadeTree, MadeText, Makes}
+use Rattle.ny_top.proofs.FaultLines.{told_from}
+
+-- Between two states a text was read, and nothing was created or printed.
+pub record Untouched (old mid : HostState) : Type 0 where
+  pub counts : NoneFell old mid
+  pub created : mid.created ≡ old.created
+  pub printed : mid.printed ≡ old.printed
+
+-- the bytes that were handed on are those that were read
+pub handed_on : (files : Option (List Named)) (from read text : List ℕ) → text ≡ read → IfSome files (λ files. read ≡ bytes_under from files)
+    → IfSome files (λ files. text ≡ bytes_under from files)
+handed_on files from read text is whole =
+    let P : List ℕ → Type 0 = λ bytes. IfSome files (λ files. bytes ≡ bytes_under from files) in subst P (sym is) whole
+
+outcome_from : (o : Outcome) (status : Status) (old mid new : HostState) → Untouched old mid → IsOutcome o status mid new → IsOutcome o status old new
+outcome_from o status old mid new same ended =
+    (ended.0, ended.1 ∙ ap (made o.file) same.created, ended.2 ∙ ap (λ known. append_known known o.printed) same.printed)
+
+-- a text that was read whole ends as its outcome says
+pub ends_read : (task : Task) (from text : List ℕ) (status : Status) (old mid new : HostState) → Untouched old mid
+    → IfSome old.files (λ files. text ≡ bytes_under from files) → length text ≤ most → EndsAs (HasReadOutcome task text) status mid new
+    → IfSome old.files (λ files. EndsAs (HasTextOutcome task (bytes_under from files)) status old new)
+ends_read task from text status old mid new same whole short ended = by_files old.files whole
+  where
+    by_files : (files : Option (List Named)) → IfSome files (λ files. text ≡ bytes_under from files)
+        → IfSome files (λ files. EndsAs (HasTextOutcome task (bytes_under from files)) status old new)
+    by_files None is = tt
+    by_files (Some files) is =
+        let P : List ℕ → Type 0 = λ bytes. EndsAs (HasTextOutcome task bytes) status old new in
+        subst P is (ended.0, inr (short, ended.1), outcome_from ended.0 status old mid new same ended.2)
+
+rose_from : (before mid now : ℕ) → before ≤ mid → Rose mid now → Rose before now
+rose_from before mid now later rose = omega (arith, later, rose)
+
+create_from : (task : Task) (old mid new : HostState) → Untouched old mid → CreateTold task mid new → CreateTold task old new
+create_from check old mid new same told = told
+create_from (render r) old mid new same told = (
+  rose_from (old.creates r.to) (mid.creates r.to) (new.creates r.to) (same.counts.creates r.to) told.0,
+  told_from (create_line r.to) old mid new same.counts.writes same.printed told.1,
+)
+
+told_read : (task : Task) (from text : List ℕ) (old mid new : HostState) → Untouched old mid
+    → IfSome old.files (λ files. text ≡ bytes_under from files) → length text ≤ most → ToldAs (HasReadOutcome task text) mid new
+    → IfSome old.files (λ files. ToldAs (HasTextOutcome task (bytes_under from files)) old new)
+told_read task from text old mid new same whole short told = by_files old.files whole
+  where
+    by_files : (files : Option (List Named)) → IfSome files (λ files. text ≡ bytes_under from files)
+        → IfSome files (λ files. ToldAs (HasTextOutcome task (bytes_under from files)) old new)
+    by_files None is = tt
+    by_files (Some files) is =
+        let P : List ℕ → Type 0 = λ bytes. ToldAs (HasTextOutcome task bytes) old new in
+        subst P is (told.0, inr (short, told.1), told_from told.0.printed old mid new same.counts.writes same.printed told.2)
+
+-- where a write failed after a text was read
+pub write_told : (command : Command) (text : List ℕ) (old mid new : HostState) → Untouched old mid
+    → IfSome old.files (λ files. text ≡ bytes_under command.from files) → length text ≤ most
+    → ToldAs (HasReadOutcome command.task text) mid new ⊎ CreateTold command.task mid new → WriteTold command old new
+write_told command text old mid new same whole short (inl told) = inl (told_read command.task command.from text old mid new same whole short told)
+write_told command text old mid new same whole short (inr told) = inr (inr (inr (create_from command.task old mid new same told)))
+
+made_tree : (task : Task) (tree : Tree) (old mid new : HostState) → mid.created ≡ old.created → MadeTree task tree mid new → MadeTree task tree old new
+made_tree check tree old mid new same made = made ∙ same
+made_tree (render r) tree old mid new same (inl made) = inl (made ∙ same)
+made_tree (render r) tree old mid new same (inr made) =
+    inr (made.0, made.1, made.2, made.3 ∙ ap (added (r.to, take made.1 made.0)) same)
+
+-- what is made of a text that was read
+pub makes_read : (command : Command) (text : List ℕ) (old mid new : HostState) → Untouched old mid
+    → IfSome old.files (λ files. text ≡ bytes_under command.from files) → MadeText command.task text mid new → Makes command old new
+makes_read command text old mid new same whole (inl made) = inl (made ∙ same.created)
+makes_read command text old mid new same whole (inr made) =
+    inr (text, whole, inr (made.0, made.1, made_tree command.task made.0 old mid new same.created made.2))
+
+-- a file that is too long is refused, once its line was printed
+pub too_long_ends : (task : Task) (from : List ℕ) (status : Status) (old new : HostState)
+    → IfSome old.files (λ files. most < length (bytes_under from files)) → IsOutcome (refused too_long_line) status old new
+    → IfSome old.files (λ files. EndsAs (HasTextOutcome task (bytes_under from files)) status old new)
+too_long_ends task from status old new long ended = by_files old.files long
+  where
+    by_files : (files : Option (List Named)) → IfSome files (λ files. most < length (bytes_under from files))
+        → IfSome files (λ files. EndsAs (HasTextOutcome task (bytes_under from files)) status old new)
+    by_files None long = tt
+    by_files (Some files) long = (refused too_long_line, inl (long, refl), ended)
+
+-- or its line was begun
+pub too_long_told : (task : Task) (from : List ℕ) (old new : HostState)
+    → IfSome old.files (λ files. most < length (bytes_under from files)) → FaultTold too_long_line old new
+    → IfSome old.files (λ files. ToldAs (HasTextOutcome task (bytes_under from files)) old new)
+too_long_told task from old new long told = by_files old.files long
+  where
+    by_files : (files : Option (List Named)) → IfSome files (λ files. most < length (bytes_under from files))
+        → IfSome files (λ files. ToldAs (HasTextOutcome task (bytes_under from files)) old new)
+    by_files None long = tt
+    by_files (Some files) long = (refused too_long_line, inl (long, refl), told)
+
+-- words that are no command end with the line of usage
+pub usage_ends : (words : List (List ℕ)) (status : Status) (old new : HostState) → read_words words ≡ None → IsOutcome usage_outcome status old new
+    → IfSome old.files (λ files. EndsAs (HasOutcome words files) status old new)
+usage_ends words status old new none ended = by_files old.files
+  where
+    by_files : (files : Option (List Named)) → IfSome files (λ files. EndsAs (HasOutcome words files) status old new)
+    by_files None = tt
+    by_files (Some files) =
+        let P : Option Command → Type 0 = λ command. EndsAs (HasCommandOutcome command files) status old new in
+        subst P (sym none) (usage_outcome, refl, ended)

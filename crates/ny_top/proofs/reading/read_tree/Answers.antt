@@ -1,0 +1,14 @@
+use Rattle.std.proofs.Common.{sym, subst, List, length}
+use Rattle.ny_syntax.specs.declared.token.Token.{Token}
+use Rattle.ny_syntax.specs.Places.{AreInOrder}
+use Rattle.ny_syntax.proofs.RoundTrip.{canonical_height-limit}
+use Rattle.ny_top.proofs.reading.read_tree.Goals as goal
+
+pub parse-requires-clause-in_order : goal.parse-requires-clause-in_order
+parse-requires-clause-in_order c =
+    let P : List Token → Type 0 = λ tokens. AreInOrder 0 tokens (length c.args.text.now) in
+    subst P (sym c.deref.ensures.value) c.in-Ok.ensures.in_order
+
+pub returns-in-Ok-parse-clause-height : goal.returns-in-Ok-parse-clause-height
+returns-in-Ok-parse-clause-height c =
+    canonical_height-limit c.args.text.now c.deref.result.now c.in-Ok-parse.tree c.in-Ok-parse.ensures.tree
