@@ -161,6 +161,24 @@ fn right_of(operator: &str) -> &'static str {
     if operator == "/" { "2" } else { "c" }
 }
 
+/// A text with two operators, the first in front of the second.
+fn plain(alloc: Global, first: &str, second: &str) -> Result<String, AllocError> {
+    let (b, c) = (right_of(first), right_of(second));
+    format!(in alloc; "play a {first} {b} {second} {c}\n")
+}
+
+/// The same with brackets around the first.
+fn left_bracketed(alloc: Global, first: &str, second: &str) -> Result<String, AllocError> {
+    let (b, c) = (right_of(first), right_of(second));
+    format!(in alloc; "play ( a {first} {b} ) {second} {c}\n")
+}
+
+/// The same with brackets around the second.
+fn right_bracketed(alloc: Global, first: &str, second: &str) -> Result<String, AllocError> {
+    let (b, c) = (right_of(first), right_of(second));
+    format!(in alloc; "play a {first} ( {b} {second} {c} )\n")
+}
+
 /// What `check` prints of a text.
 fn checked(alloc: Global, text: String) -> Result<Option<String>, AllocError> {
     let mut host = host(alloc, text.into_bytes(), AMPLE, None)?;
@@ -173,42 +191,42 @@ fn checked(alloc: Global, text: String) -> Result<Option<String>, AllocError> {
     }
 }
 
+/// Whether `check` prints a text with brackets as it is where they are needed, and else without them.
+fn keeps_brackets_if(
+    alloc: Global,
+    needed: bool,
+    bracketed: String,
+    plain: String,
+) -> Result<bool, AllocError> {
+    let expected = if needed { bracketed.clone()? } else { plain };
+    Ok(checked(alloc, bracketed)? == Some(expected))
+}
+
 #[test]
-fn operators_under_operators(rt: HostRuntime) -> Result<(), Fail> {
+fn operators_to_the_left(rt: HostRuntime) -> Result<(), Fail> {
     let alloc = rt.alloc();
-    for (outer, level, left_least) in OPERATORS {
-        for (inner, inner_level, _) in OPERATORS {
-            let (right, inner_right) = (right_of(outer), right_of(inner));
-            let bracketed = format!(in alloc;
-                "play ( a {inner} {inner_right} ) {outer} {right}\n"
-            )?;
-            let plain = format!(in alloc; "play a {inner} {inner_right} {outer} {right}\n")?;
-            let expected = if inner_level < left_least {
-                bracketed.clone()?
-            } else {
-                plain
-            };
-            assert_eq!(rt;
-                checked(alloc, bracketed)?,
-                Some(expected),
-                "{inner} to the left of {outer}"
-            );
+    for (outer, _, left_least) in OPERATORS {
+        for (inner, level, _) in OPERATORS {
+            let bracketed = left_bracketed(alloc, inner, outer)?;
+            let plain = plain(alloc, inner, outer)?;
+            let needed = level < left_least;
+            assert!(rt; keeps_brackets_if(alloc, needed, bracketed, plain)?);
         }
-        for (inner, inner_level, _) in OPERATORS {
+    }
+    Ok(())
+}
+
+// A division is by a literal, so no operator stands to the right of one.
+#[test]
+fn operators_to_the_right(rt: HostRuntime) -> Result<(), Fail> {
+    let alloc = rt.alloc();
+    for (outer, outer_level, _) in OPERATORS {
+        for (inner, level, _) in OPERATORS {
             if outer != "/" {
-                let inner_right = right_of(inner);
-                let bracketed = format!(in alloc; "play a {outer} ( b {inner} {inner_right} )\n")?;
-                let plain = format!(in alloc; "play a {outer} b {inner} {inner_right}\n")?;
-                let expected = if inner_level <= level {
-                    bracketed.clone()?
-                } else {
-                    plain
-                };
-                assert_eq!(rt;
-                    checked(alloc, bracketed)?,
-                    Some(expected),
-                    "{inner} to the right of {outer}"
-                );
+                let bracketed = right_bracketed(alloc, outer, inner)?;
+                let plain = plain(alloc, outer, inner)?;
+                let needed = level <= outer_level;
+                assert!(rt; keeps_brackets_if(alloc, needed, bracketed, plain)?);
             }
         }
     }
