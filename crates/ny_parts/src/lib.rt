@@ -8,3 +8,5 @@ mod blocks;
 mod numbers;
 #[cfg(test)]
 mod tokens;
+#[cfg(test)]
+mod warps;

@@ -1,0 +1,288 @@
+ghost use Rattle.std.specs.Prelude.{◌≡◌, ◌≢◌, ℕ, ◌+◌, ◌-◌, ◌<◌, ◌≤◌, ◌↔◌, ◌^◌, IsTrue, IsSomeAnd, [], Some, None, IfOk, OnOk, OnErr, is_err, length, take, drop, map, ◌++◌};
+ghost use Rattle.std.specs.Option.{option_map};
+ghost use Rattle.ny_heap.specs.Heap.{HeapState, Made, node_at, list_of, place_of, open_unit, is_open, live_of, free_of};
+ghost use Rattle.ny_heap.specs.Means.{Parts, Whole, Means, KeepsMeaning, sound_in};
+ghost use Rattle.ny_heap.specs.Reach.{HeapLaws, IsTrimmed};
+ghost use Rattle.ny_heap.specs.Steps.{IsHeldSound, without_sound, without_sounds, AreHeld, IsMadeOf, IsMixOf, sounds_of, waiting_of, kind_of_mix, Makes, MakesMeaning, want_of, IsSettledUnit, Fills, Passes, run_of, computed_in, advanced};
+
+use crate::make::Make;
+use crate::samples::{copy_run, fill_block};
+use crate::sound::{Reading, Sound, begin, same_timing};
+use crate::table::{
+    Table, Work, drop_one, first_lacking, is_unfilled, make_unit, move_sound, stand_at,
+};
+use ny_num::{Sample, Timing};
+use ny_pool::{Pool, SlotId, Slots};
+use std::alloc::{AllocError, Global};
+use std::marker::{Model, PhantomData};
+
+/// The number of a unit of a [`Heap`].
+#[derive(Clone, Copy, Debug, PartialEq, Eq)]
+pub struct UnitId(pub SlotId);
+
+/// Why a unit could not fill a block.
+#[derive(Clone, Copy, Debug, PartialEq, Eq)]
+pub enum FillFault {
+    /// No block is free.
+    PoolFull,
+}
+
+/// Units that compute sounds block by block, over a pool of fixed size.
+///
+/// A block is taken by a fill, and given back once nobody has still to read it. A unit is there as
+/// long as a sound in a caller's hands leads to it. `B` is what a part that waits is evaluated from.
+#[derive(Drop)]
+pub struct Heap<B> {
+    table: Table,
+    // How many blocks the pool has.
+    size: u32,
+    fills: u64,
+    // The greatest number of blocks taken at once.
+    peak: u32,
+    // Where a fill computes its block, and a second input of it.
+    out: Vec<Sample>,
+    other: Vec<Sample>,
+    branches: PhantomData<B>,
+}
+
+impl<B> Model for Heap<B> {
+    ghost use Rattle.ny_heap.specs.Heap.{HeapState};
+
+    ghost Value = { HeapState B };
+
+    ghost use Rattle.ny_heap.specs.View.{state_of, IsHeapInside};
+
+    ghost view = { λ h. state_of h.table h.fills h.peak };
+
+    ghost invariant = { λ h. IsHeapInside h.table h.size h.fills h.peak h.out.items h.other.items };
+}
+
+impl<B> Heap<B> {
+    /// A heap without units, over a pool of `pool` blocks of `block` samples each. It also makes the
+    /// buffers in which each fill is computed.
+    ///
+    /// # Errors
+    /// `AllocError` where memory is missing.
+    pub fn open(alloc: Global, pool: u32, block: u32) -> Result<Self, AllocError>
+        requires some_blocks { 1 ≤ pool }
+        requires some_samples { 1 ≤ block }
+        ensures laws { IfOk result (λ h. HeapLaws h) }
+        ensures opened { IfOk result (λ h. h ≡ record { nodes = []; blocks = []; pool = pool; block = block; fills = 0; peak = 0 }) }
+    {
+        let table = Table {
+            units: Slots::open(alloc)?,
+            pool: Pool::open(alloc, pool, block, Sample::ZERO)?,
+            block,
+        };
+        let out = vec![in alloc; Sample::ZERO; block as usize]?;
+        let other = vec![in alloc; Sample::ZERO; block as usize]?;
+        Ok(Heap {
+            table,
+            size: pool,
+            fills: 0,
+            peak: 0,
+            out,
+            other,
+            branches: PhantomData,
+        })
+    }
+
+    /// A unit that computes this of these sounds, heard as `timing` says, and a sound that reads it.
+    /// Where it has no sample there is no unit. The sounds in `inputs` are spent.
+    ///
+    /// # Errors
+    /// `AllocError` where memory is missing. The sounds in `inputs` are spent nevertheless.
+    pub fn make(
+        &mut self,
+        alloc: Global,
+        make: Make,
+        inputs: Vec<Sound>,
+        timing: Timing,
+    ) -> Result<Sound, AllocError>
+        requires made { IsMadeOf make inputs.items timing }
+        requires inputs { AreHeld self.old inputs.items }
+        ensures laws { HeapLaws self.new }
+        ensures makes { IfOk result (λ s. Makes self.old self.new (Made make) timing inputs.items [] inputs.items s) }
+        ensures meaning { IfOk result (λ s. MakesMeaning self.old self.new (Made make) timing inputs.items [] s) }
+        ensures released { OnErr result (IsTrimmed (without_sounds self.old inputs.items) self.new) }
+        ensures keeps { OnErr result (KeepsMeaning self.old self.new) }
+    {
+        let when = same_timing(&timing);
+        let made = make_unit(
+            &mut self.table,
+            alloc,
+            self.size,
+            Work::Made(make),
+            inputs,
+            timing,
+        )?;
+        Ok(begin(made, when))
+    }
+
+    /// A unit that mixes these parts, heard as `timing` says, and a sound that reads it. Where it has
+    /// no sample there is no unit. A channel is a mix of one part. The sounds in `parts` and in
+    /// `waiting` are spent.
+    ///
+    /// So far a mix is a channel, and no part waits.
+    ///
+    /// # Errors
+    /// `AllocError` where memory is missing. The sounds in `parts` and in `waiting` are spent
+    /// nevertheless.
+    pub fn make_mix(
+        &mut self,
+        alloc: Global,
+        parts: Vec<Sound>,
+        waiting: Vec<(B, Vec<Sound>)>,
+        timing: Timing,
+        channel: bool,
+    ) -> Result<Sound, AllocError>
+        requires mix { IsMixOf parts.items timing }
+        requires one { length parts.items ≡ 1 }
+        requires waits { length waiting.items ≡ 0 }
+        requires channel { IsTrue channel }
+        requires inputs { AreHeld self.old (parts.items ++ sounds_of (map (λ p. (p.0, p.1.items)) waiting.items)) }
+        ensures laws { HeapLaws self.new }
+        ensures makes { IfOk result (λ s. Makes self.old self.new (kind_of_mix channel) timing parts.items (map waiting_of (map (λ p. (p.0, p.1.items)) waiting.items)) (parts.items ++ sounds_of (map (λ p. (p.0, p.1.items)) waiting.items)) s) }
+        ensures meaning { IfOk result (λ s. MakesMeaning self.old self.new (kind_of_mix channel) timing parts.items (map waiting_of (map (λ p. (p.0, p.1.items)) waiting.items)) s) }
+        ensures released { OnErr result (IsTrimmed (without_sounds self.old (parts.items ++ sounds_of (map (λ p. (p.0, p.1.items)) waiting.items))) self.new) }
+        ensures keeps { OnErr result (KeepsMeaning self.old self.new) }
+    {
+        waiting.destroy_empty();
+        let when = same_timing(&timing);
+        let made = make_unit(
+            &mut self.table,
+            alloc,
+            self.size,
+            Work::Channel,
+            parts,
+            timing,
+        )?;
+        Ok(begin(made, when))
+    }
+
+    /// How many blocks are free.
+    pub fn free(&self) -> u32
+        ensures free { result ≡ free_of self.now }
+        ensures laws { HeapLaws self.now }
+    {
+        self.table.pool.free()
+    }
+
+    /// How many blocks are taken: those that somebody has still to read.
+    pub fn live(&self) -> u32
+        ensures live { result ≡ live_of self.now }
+        ensures laws { HeapLaws self.now }
+    {
+        self.size - self.table.pool.free()
+    }
+
+    /// How many fills succeeded, or 2^64 - 1 where that is greater.
+    pub fn fills(&self) -> u64
+        ensures fills { result ≡ self.now.fills }
+    {
+        self.fills
+    }
+
+    /// Spends a sound. What nobody can reach any more is removed, and its blocks are given back.
+    pub fn release(&mut self, s: Sound)
+        requires held { IsHeldSound self.old s }
+        ensures laws { HeapLaws self.new }
+        ensures trimmed { IsTrimmed (without_sound self.old s) self.new }
+        ensures keeps { KeepsMeaning self.old self.new }
+    {
+        if let Some(reading) = s.reading {
+            drop_one(&mut self.table, reading.unit);
+        }
+    }
+
+    /// The unit that fills a sound's list; None exactly where the sound has no sample, or its unit
+    /// has filled its last block.
+    pub fn unit_of(&self, s: &Sound) -> Option<UnitId>
+        requires held { IsHeldSound self.now s.now }
+        ensures unit { option_map (λ u. u.0.0) result ≡ open_unit self.now (list_of s.now) }
+    {
+        let reading = s.reading?;
+        if !is_unfilled(&self.table, reading.unit) {
+            return None;
+        }
+        Some(UnitId(SlotId(reading.unit)))
+    }
+
+    /// The first input's unit that is not computed far enough for the next block of `u`; None exactly
+    /// where each input is.
+    pub fn want(&self, u: UnitId) -> Option<UnitId>
+        requires open { IsSomeAnd (node_at self.now u.0.0) (λ x. IsTrue (is_open self.now.block x)) }
+        ensures first { option_map (λ v. v.0.0) result ≡ want_of self.now u.0.0 }
+    {
+        match first_lacking(&self.table, u.0.0) {
+            None => None,
+            Some(v) => Some(UnitId(SlotId(v))),
+        }
+    }
+
+    /// Whether each input is computed far enough for the next block of `u`.
+    pub fn ready(&self, u: UnitId) -> bool
+        requires open { IsSomeAnd (node_at self.now u.0.0) (λ x. IsTrue (is_open self.now.block x)) }
+        ensures ready { IsTrue result ↔ (want_of self.now u.0.0 ≡ None) }
+    {
+        self.want(u).is_none()
+    }
+
+    /// Fills the next block of `u`.
+    ///
+    /// The block is taken from the pool. The inputs of `u` move on to what its next block needs, and
+    /// those that it has done with are dropped. What nobody has still to read is given back.
+    ///
+    /// # Errors
+    /// `PoolFull` exactly where no block is free, and then nothing changed.
+    pub fn fill(&mut self, u: UnitId) -> Result<(), FillFault>
+        requires open { IsSomeAnd (node_at self.old u.0.0) (λ x. IsTrue (is_open self.old.block x)) }
+        requires ready { want_of self.old u.0.0 ≡ None }
+        requires settled { IsSomeAnd (node_at self.old u.0.0) IsSettledUnit }
+        ensures laws { HeapLaws self.new }
+        ensures full { IsTrue (is_err result) ↔ (free_of self.old ≡ 0) }
+        ensures nothing { OnErr result (self.new ≡ self.old) }
+        ensures fills { OnOk result (Fills self.old self.new u.0.0) }
+        ensures keeps { KeepsMeaning self.old self.new }
+    {
+        let free = self.table.pool.free();
+        if free == 0 {
+            return Err(FillFault::PoolFull);
+        }
+        fill_block(
+            &mut self.table,
+            u.0.0,
+            self.out.as_mut_slice(),
+            self.other.as_mut_slice(),
+        );
+        self.fills = self.fills.saturating_add(1);
+        self.peak = self.peak.max(self.size - free + 1);
+        Ok(())
+    }
+
+    /// Copies the next samples of a sound to the front of `out`, and passes them: no more than there
+    /// is room for, of those that are computed and shown, to the end of their block. Answers how many.
+    pub fn read(&mut self, s: &mut Sound, out: &mut [Sample]) -> usize
+        requires held { IsHeldSound self.old s.old }
+        ensures laws { HeapLaws self.new }
+        ensures count { result ≡ run_of self.old.block (computed_in self.old (list_of s.old)) s.old.timing.len (place_of s.old) (length out.old) }
+        ensures passes { Passes s.old s.new result }
+        ensures trimmed { IsTrimmed (advanced self.old s.old s.new) self.new }
+        ensures samples { (part : Parts B) (w : Whole) → Means part self.old w → out.new ≡ take result (drop (place_of s.old) (sound_in w.samples (list_of s.old) s.old.timing).samples) ++ drop result out.old }
+        ensures keeps { KeepsMeaning self.old self.new }
+    {
+        let _peak = self.peak;
+        let Some(reading) = s.reading else {
+            return 0;
+        };
+        let count = copy_run(&self.table, reading.unit, reading.place, s.timing.len, out);
+        let place = reading.place + count as u32;
+        s.reading = Some(Reading {
+            unit: reading.unit,
+            place,
+        });
+        let to = stand_at(&self.table, reading.unit, place);
+        move_sound(&mut self.table, reading.unit, to);
+        count
+    }
+}

@@ -1,0 +1,16 @@
+//! Units that compute sounds a block at a time, over a pool of fixed size.
+//!
+//! A unit stands for one sound. It computes its samples in blocks, when it is asked to, from the
+//! blocks of the units that it reads. A block is kept as long as somebody has still to read it. The
+//! rules stand in `docs/DEFINITIONS.md`, "Blocks" and "The heap".
+#![tactic(auto)]
+
+mod heap;
+mod make;
+mod samples;
+mod sound;
+mod table;
+
+pub use heap::{FillFault, Heap, UnitId};
+pub use make::{Leaf, Make, Op};
+pub use sound::Sound;
