@@ -8,41 +8,36 @@ const COMMAND: &str = "check a.sal";
 const AMPLE: usize = 65536;
 
 /// Texts, and what `check` prints.
-const TEXTS: [(&[u8], Status, &[u8]); 22] = [
+const TEXTS: [(&[u8], Status, &[u8]); 40] = [
     (
         b"PLAY Const(.5,0.0010) ; x",
         Status::Ok,
         b"play const ( 0.5 , 0.001 )\n",
     ),
-    (b"", Status::Ok, b""),
-    (b"play 1 - (2 - 3)", Status::Ok, b"play 1 - ( 2 - 3 )\n"),
-    (b"play (1 - 2) - 3", Status::Ok, b"play 1 - 2 - 3\n"),
     (
-        b"play (1 + 2) * 3 / 4",
+        b"define function f(a, b) begin with x = a return const(x, b) end define variable v = .50 play f(v, (v - (1 - v)))",
         Status::Ok,
-        b"play ( 1 + 2 ) * 3 / 4\n",
+        b"define function f ( a , b ) return begin with x = a return const ( x , b ) end\ndefine variable v = 0.5\nplay f ( v , v - ( 1 - v ) )\n",
     ),
     (
-        b"play f(x) @ 2 ~ -k",
+        b"define function map(x) return x play map(const(1,1))",
         Status::Ok,
-        b"play f ( x ) @ 2 ~ - k\n",
-    ),
-    (b"play -(a @ b)", Status::Ok, b"play - ( a @ b )\n"),
-    (
-        b"play (1 < 2) & !(3 = 4) | x",
-        Status::Ok,
-        b"play 1 < 2 & ! ( 3 = 4 ) | x\n",
-    ),
-    (b"play (1 < 2) = x", Status::Ok, b"play ( 1 < 2 ) = x\n"),
-    (
-        b"play #IF(a, b, c)",
-        Status::Ok,
-        b"play #if ( a , b , c )\n",
+        b"define function map ( x ) return x\nplay map ( const ( 1 , 1 ) )\n",
     ),
     (
-        b"define function f(a, b) begin with x = a return x end define variable v = .50 play f(v, 2)",
+        b"play const(0.1, 1) @ 0.5",
         Status::Ok,
-        b"define function f ( a , b ) return begin with x = a return x end\ndefine variable v = 0.5\nplay f ( v , 2 )\n",
+        b"play const ( 0.1 , 1 ) @ 0.5\n",
+    ),
+    (
+        b"play #if(1 < 2, const(0.5, 1), const(0.1, 1))",
+        Status::Ok,
+        b"play #if ( 1 < 2 , const ( 0.5 , 1 ) , const ( 0.1 , 1 ) )\n",
+    ),
+    (
+        b"play simrep(i, 3, const(0.1, 1) @ (i * 2))",
+        Status::Ok,
+        b"play simrep ( i , 3 , const ( 0.1 , 1 ) @ ( i * 2 ) )\n",
     ),
     (
         b"play 1.2345678",
@@ -71,17 +66,124 @@ const TEXTS: [(&[u8], Status, &[u8]); 22] = [
         Status::Refused,
         b"refused: parse 18\n",
     ),
+    (
+        b"play foo(1)",
+        Status::Refused,
+        b"refused: check 5 UnknownName\n",
+    ),
+    (
+        b"play i",
+        Status::Refused,
+        b"refused: check 5 UnknownName\n",
+    ),
+    (
+        b"play sim(simrep(i, 3, const(0.1, 1)), const(i, 1))",
+        Status::Refused,
+        b"refused: check 44 UnknownName\n",
+    ),
+    (
+        b"define variable a = 1 define variable a = 2 play const(a, 1)",
+        Status::Refused,
+        b"refused: check 38 Redefined\n",
+    ),
+    (
+        b"define function f(a, a) return a play f(1, const(1, 1))",
+        Status::Refused,
+        b"refused: check 21 Redefined\n",
+    ),
+    (
+        b"define function osc(a) return a play const(1, 1)",
+        Status::Refused,
+        b"refused: check 16 Redefined\n",
+    ),
+    (
+        b"define function f(d) return f(d) play f(1)",
+        Status::Refused,
+        b"refused: check 28 NotYetDefined\n",
+    ),
+    (
+        b"play osc(60)",
+        Status::Refused,
+        b"refused: check 5 Arity\n",
+    ),
+    (b"play 1", Status::Refused, b"refused: check 5 Kind\n"),
+    (
+        b"play begin with x = 1 < 2, y = x return y end",
+        Status::Refused,
+        b"refused: check 5 Kind\n",
+    ),
+    (
+        b"play const(1, !(1 / 0))",
+        Status::Refused,
+        b"refused: check 14 Kind\n",
+    ),
+    (
+        b"play simrep(1, 3, const(1, 1))",
+        Status::Refused,
+        b"refused: check 12 Kind\n",
+    ),
+    (
+        b"play 0.5 @ const(0.1, 1)",
+        Status::Refused,
+        b"refused: check 9 Kind\n",
+    ),
+    (
+        b"play seqrep(i, 0, const(1, 1))",
+        Status::Refused,
+        b"refused: check 15 BadCount\n",
+    ),
+    (
+        b"play seqrep(i, 100001, const(1, 1))",
+        Status::Refused,
+        b"refused: check 15 BadCount\n",
+    ),
+    (
+        b"play seqrep(i, (0), const(1, 1))",
+        Status::Refused,
+        b"refused: check 16 BadCount\n",
+    ),
+    (
+        b"play warp(map(1, 1, 1, 2), const(1, 1))",
+        Status::Refused,
+        b"refused: check 10 BadMap\n",
+    ),
+    (
+        b"play warp(map(1, 3600.000001), const(1, 1))",
+        Status::Refused,
+        b"refused: check 10 BadMap\n",
+    ),
+    (
+        b"play sound-srate-abs(44101, const(1, 1))",
+        Status::Refused,
+        b"refused: check 21 BadRate\n",
+    ),
+    (
+        b"play const(1 / 0, 1)",
+        Status::Refused,
+        b"refused: check 13 ZeroDivisor\n",
+    ),
+    (
+        b"define variable a = 1",
+        Status::Refused,
+        b"refused: check 21 NoPlay\n",
+    ),
+    (b"", Status::Refused, b"refused: check 0 NoPlay\n"),
+    (
+        b"play vector(const(1, 1), const(1, 1), const(1, 1), const(1, 1), const(1, 1), const(1, 1), const(1, 1), const(1, 1), const(1, 1))",
+        Status::Refused,
+        b"refused: check 5 TooManyChannels\n",
+    ),
 ];
 
 #[test]
-fn canonical_texts(rt: HostRuntime) -> Result<(), Fail> {
+fn texts_and_what_is_printed(rt: HostRuntime) -> Result<(), Fail> {
     let alloc = rt.alloc();
     for (text, status, printed) in TEXTS {
         let mut host = host(alloc, Vec::from_slice(alloc, text)?, AMPLE, None)?;
         assert_eq!(rt;
             run(alloc, &words(alloc, COMMAND)?, &mut host),
             status,
-            "{printed:?}"
+            "{text:?}"
         );
         assert_eq!(rt; host.printed(), printed);
         assert_eq!(rt; host.created(), None);
@@ -126,7 +228,7 @@ fn a_text_that_is_not_printed(rt: HostRuntime) -> Result<(), Fail> {
     let alloc = rt.alloc();
     let mut host = host(
         alloc,
-        Vec::from_slice(alloc, b"play 1")?,
+        Vec::from_slice(alloc, b"play const(1, 1)")?,
         3,
         Some((Kind::Print, 2)),
     )?;
@@ -138,96 +240,49 @@ fn a_text_that_is_not_printed(rt: HostRuntime) -> Result<(), Fail> {
     Ok(())
 }
 
-/// Each operator, how tightly it binds, and how tightly what stands to its left must bind.
-const OPERATORS: [(&str, u8, u8); 14] = [
-    ("|", 1, 1),
-    ("&", 2, 2),
-    ("=", 3, 4),
-    ("!=", 3, 4),
-    ("<", 3, 4),
-    (">", 3, 4),
-    ("<=", 3, 4),
-    (">=", 3, 4),
-    ("+", 4, 4),
-    ("-", 4, 4),
-    ("*", 5, 5),
-    ("/", 5, 5),
-    ("@", 6, 6),
-    ("~", 6, 6),
+/// The body of function `k`, which calls the one before it once or twice.
+fn body(alloc: Global, last: usize, twice: bool) -> Result<String, AllocError> {
+    if twice {
+        format!(in alloc; "sim(f{last}(), f{last}())")
+    } else {
+        format!(in alloc; "s-abs(f{last}())")
+    }
+}
+
+/// Functions without parameters, each of which calls the one before it.
+fn functions(alloc: Global, count: usize, twice: bool) -> Result<Vec<u8>, AllocError> {
+    let mut text = Vec::from_slice(alloc, b"define function f0() return const(0, 0.1)\n")?;
+    for last in 0..count {
+        let k = last + 1;
+        let body = body(alloc, last, twice)?;
+        let line = format!(in alloc; "define function f{k}() return {body}\n")?;
+        text.extend_from_slice(line.as_bytes())?;
+    }
+    Ok(text)
+}
+
+/// How many functions, whether each calls the one before it twice, and why it is refused.
+const CHAINS: [(usize, bool, &str); 3] = [
+    (126, false, ""),
+    (127, false, "TooDeep"),
+    (39, true, "TooHeavy"),
 ];
 
-/// What stands to the right of an operator: a number after `/`, and else a name.
-fn right_of(operator: &str) -> &'static str {
-    if operator == "/" { "2" } else { "c" }
-}
-
-/// A text with two operators, the first in front of the second.
-fn plain(alloc: Global, first: &str, second: &str) -> Result<String, AllocError> {
-    let (b, c) = (right_of(first), right_of(second));
-    format!(in alloc; "play a {first} {b} {second} {c}\n")
-}
-
-/// The same with brackets around the first.
-fn left_bracketed(alloc: Global, first: &str, second: &str) -> Result<String, AllocError> {
-    let (b, c) = (right_of(first), right_of(second));
-    format!(in alloc; "play ( a {first} {b} ) {second} {c}\n")
-}
-
-/// The same with brackets around the second.
-fn right_bracketed(alloc: Global, first: &str, second: &str) -> Result<String, AllocError> {
-    let (b, c) = (right_of(first), right_of(second));
-    format!(in alloc; "play a {first} ( {b} {second} {c} )\n")
-}
-
-/// What `check` prints of a text.
-fn checked(alloc: Global, text: String) -> Result<Option<String>, AllocError> {
-    let mut host = host(alloc, text.into_bytes(), AMPLE, None)?;
-    if run(alloc, &words(alloc, COMMAND)?, &mut host) != Status::Ok {
-        return Ok(None);
-    }
-    match std::str::from_utf8(host.printed()) {
-        Ok(printed) => Ok(Some(String::from_str(alloc, printed)?)),
-        Err(_) => Ok(None),
-    }
-}
-
-/// Whether `check` prints a text with brackets as it is where they are needed, and else without them.
-fn keeps_brackets_if(
-    alloc: Global,
-    needed: bool,
-    bracketed: String,
-    plain: String,
-) -> Result<bool, AllocError> {
-    let expected = if needed { bracketed.clone()? } else { plain };
-    Ok(checked(alloc, bracketed)? == Some(expected))
-}
-
 #[test]
-fn operators_to_the_left(rt: HostRuntime) -> Result<(), Fail> {
+fn depth_and_weight_at_the_bounds(rt: HostRuntime) -> Result<(), Fail> {
     let alloc = rt.alloc();
-    for (outer, _, left_least) in OPERATORS {
-        for (inner, level, _) in OPERATORS {
-            let bracketed = left_bracketed(alloc, inner, outer)?;
-            let plain = plain(alloc, inner, outer)?;
-            let needed = level < left_least;
-            assert!(rt; keeps_brackets_if(alloc, needed, bracketed, plain)?);
-        }
-    }
-    Ok(())
-}
-
-// A division is by a literal, so no operator stands to the right of one.
-#[test]
-fn operators_to_the_right(rt: HostRuntime) -> Result<(), Fail> {
-    let alloc = rt.alloc();
-    for (outer, outer_level, _) in OPERATORS {
-        for (inner, level, _) in OPERATORS {
-            if outer != "/" {
-                let bracketed = right_bracketed(alloc, outer, inner)?;
-                let plain = plain(alloc, outer, inner)?;
-                let needed = level <= outer_level;
-                assert!(rt; keeps_brackets_if(alloc, needed, bracketed, plain)?);
-            }
+    for (count, twice, why) in CHAINS {
+        let mut text = functions(alloc, count, twice)?;
+        let at = text.len();
+        text.extend_from_slice(format!(in alloc; "play f{count}()\n")?.as_bytes())?;
+        let mut host = host(alloc, text, AMPLE, None)?;
+        let status = run(alloc, &words(alloc, COMMAND)?, &mut host);
+        if why.is_empty() {
+            assert_eq!(rt; status, Status::Ok);
+        } else {
+            assert_eq!(rt; status, Status::Refused);
+            let line = format!(in alloc; "refused: check {at} {why}\n")?;
+            assert_eq!(rt; host.printed(), line.as_bytes());
         }
     }
     Ok(())

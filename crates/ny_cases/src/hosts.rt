@@ -36,7 +36,7 @@ pub fn host(alloc: Global, text: Vec<u8>, step: usize, fault: Fault) -> Result<M
         prints: numbers(alloc, fault, Kind::Print)?,
     };
     let name = String::from_str(alloc, "a.sal")?;
-    MemHost::of(alloc, vec![in alloc; (name, text)]?, step, fails, 4096)
+    MemHost::of(alloc, vec![in alloc; (name, text)]?, step, fails, 16384)
 }
 
 /// The words of a command, from a text with a space between two.

@@ -29,7 +29,7 @@ fn file(alloc: Global, count: u8, sample: [u8; 2]) -> Result<Vec<u8>, AllocError
 }
 
 /// Texts, with the number of their samples and the bytes of each.
-const SONGS: [(&str, &[u8], u8, [u8; 2]); 10] = [
+const SONGS: [(&str, &[u8], u8, [u8; 2]); 11] = [
     ("first_file", b"play const(0.5, 0.001)", 8, [0xff, 0x3f]),
     ("empty_sound", b"play const(0.5, 0)", 0, [0, 0]),
     (
@@ -70,6 +70,12 @@ const SONGS: [(&str, &[u8], u8, [u8; 2]); 10] = [
         [0x03, 0x00],
     ),
     ("a minus of nothing", b"play const(-0,0.001)", 8, [0, 0]),
+    (
+        "a declaration that is not used",
+        b"define variable v = 1 play const(0.5, 0.001)",
+        8,
+        [0xff, 0x3f],
+    ),
 ];
 
 #[test]
@@ -255,7 +261,7 @@ const REFUSALS: [Refusal; 30] = [
         AMPLE,
         Status::Refused,
         None,
-        b"refused: form\n",
+        b"refused: check 0 NoPlay\n",
     ),
     (
         COMMAND,

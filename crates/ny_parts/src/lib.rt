@@ -5,6 +5,8 @@
 #[cfg(test)]
 mod blocks;
 #[cfg(test)]
+mod canonical;
+#[cfg(test)]
 mod numbers;
 #[cfg(test)]
 mod tokens;

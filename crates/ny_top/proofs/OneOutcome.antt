@@ -5,15 +5,17 @@ use Rattle.ny_io.specs.Host.{Named, bytes_under}
 use Rattle.ny_syntax.specs.declared.token.Token.{Token}
 use Rattle.ny_syntax.specs.declared.tree.Tree.{Tree}
 use Rattle.ny_syntax.specs.Grammar.{HasTree}
-use Rattle.ny_lex.specs.Spelling.{HasTokens}
+use Rattle.ny_lex.specs.Spelling.{HasTokens, IsUnreadable}
 use Rattle.ny_lex.proofs.Tokens.{spells-unique, unreadable-no_tokens, unreadable-unique}
 use Rattle.ny_parse.specs.Prefix.{StopsAt}
 use Rattle.ny_parse.proofs.OneTree.{one_tree as tree-unique}
 use Rattle.ny_parse.proofs.OnePlace.{stops-no_tree, stops-unique}
+use Rattle.ny_resolve.specs.declared.fault.Fault.{Fault}
+use Rattle.ny_check.specs.Acceptance.{fault_of}
 use Rattle.ny_top.specs.declared.reading.Refusal.{Refusal}
-use Rattle.ny_top.specs.declared.reading.Refusal.TheVariants.{Lex, Parse}
+use Rattle.ny_top.specs.declared.reading.Refusal.TheVariants.{Lex, Parse, Check}
 use Rattle.ny_top.specs.Words.{Task, Command}
-use Rattle.ny_top.specs.Reading.{IsTreeOf, IsRefusal, refusal_text}
+use Rattle.ny_top.specs.Reading.{IsTreeOf, IsAccepted, IsRefusal, refusal_text}
 use Rattle.ny_top.specs.Outcome.{Outcome, refused, tree_outcome, HasReadOutcome, HasTextOutcome, HasCommandOutcome}
 
 same_tokens : (text : List ℕ) (tokens others : List Token) → HasTokens text tokens → HasTokens text others → others ≡ tokens
@@ -31,28 +33,52 @@ one_place text at other tokens others spelled stops respelled again =
     let P : List Token → Type 0 = λ ts. StopsAt text ts other in
     stops-unique text tokens at other stops (subst P (same_tokens text tokens others spelled respelled) again)
 
+tree-readable : (text : List ℕ) (at : ℕ) (why : _) (tree : Tree) → IsUnreadable text at why → IsTreeOf text tree → ⊥
+tree-readable text at why tree is (tokens, spelled, has) = unreadable-no_tokens text at why is tokens spelled
+
+tree-goes_on : (text : List ℕ) (at : ℕ) (tokens : List Token) (tree : Tree) → HasTokens text tokens → StopsAt text tokens at → IsTreeOf text tree → ⊥
+tree-goes_on text at tokens tree spelled stops (others, respelled, has) =
+    let P : List Token → Type 0 = λ ts. HasTree text ts tree in
+    stops-no_tree text tokens at tree stops (subst P (same_tokens text tokens others spelled respelled) has)
+
+same_fault : (f g : Fault) → Some f ≡ Some g → f ≡ g
+same_fault f g e = cc
+
+-- a tree has one first fault at most
+one_fault : (fault : Option Fault) (f g : Fault) → fault ≡ Some f → fault ≡ Some g → Check g.at g.why ≡ Check f.at f.why
+one_fault fault f g is again = ap (λ (h : Fault). Check h.at h.why) (sym (same_fault f g (sym is ∙ again)))
+
+no_fault : (fault : Option Fault) (f : Fault) → fault ≡ None → fault ≡ Some f → ⊥
+no_fault fault f none is = cc
+
 -- a text is refused in one way at most
 one_refusal : (text : List ℕ) (a b : Refusal) → IsRefusal text a → IsRefusal text b → b ≡ a
 one_refusal text (Lex at why) (Lex other other_why) is again =
     let same : (at ≡ other) × (why ≡ other_why) = unreadable-unique text at other why other_why is again in
     ap (λ place. Lex place other_why) (sym same.0) ∙ ap (λ cause. Lex at cause) (sym same.1)
 one_refusal text (Lex at why) (Parse other) is (tokens, spelled, stops) = absurd (unreadable-no_tokens text at why is tokens spelled)
+one_refusal text (Lex at why) (Check other other_why) is (tree, has, fault) = absurd (tree-readable text at why tree is has)
 one_refusal text (Parse at) (Lex other why) (tokens, spelled, stops) is = absurd (unreadable-no_tokens text other why is tokens spelled)
 one_refusal text (Parse at) (Parse other) (tokens, spelled, stops) (others, respelled, again) =
     ap Parse (one_place text at other tokens others spelled stops respelled again)
+one_refusal text (Parse at) (Check other why) (tokens, spelled, stops) (tree, has, fault) = absurd (tree-goes_on text at tokens tree spelled stops has)
+one_refusal text (Check at why) (Lex other other_why) (tree, has, fault) is = absurd (tree-readable text other other_why tree is has)
+one_refusal text (Check at why) (Parse other) (tree, has, fault) (tokens, spelled, stops) = absurd (tree-goes_on text other tokens tree spelled stops has)
+one_refusal text (Check at why) (Check other other_why) (tree, has, fault) (second, again, other_fault) =
+    one_fault (fault_of tree) (record { at = at; why = why }) (record { at = other; why = other_why }) fault (ap fault_of (sym (one_tree text tree second has again)) ∙ other_fault)
 
--- no text that has a tree is refused
-refusal_or_tree : (text : List ℕ) (a : Refusal) (tree : Tree) → IsRefusal text a → IsTreeOf text tree → ⊥
-refusal_or_tree text (Lex at why) tree is (tokens, spelled, has) = unreadable-no_tokens text at why is tokens spelled
-refusal_or_tree text (Parse at) tree (tokens, spelled, stops) (others, respelled, has) =
-    let P : List Token → Type 0 = λ ts. HasTree text ts tree in
-    stops-no_tree text tokens at tree stops (subst P (same_tokens text tokens others spelled respelled) has)
+-- no accepted text is refused
+refusal_or_tree : (text : List ℕ) (a : Refusal) (tree : Tree) → IsRefusal text a → IsAccepted text tree → ⊥
+refusal_or_tree text (Lex at why) tree is (has, accepted) = tree-readable text at why tree is has
+refusal_or_tree text (Parse at) tree (tokens, spelled, stops) (has, accepted) = tree-goes_on text at tokens tree spelled stops has
+refusal_or_tree text (Check at why) tree (second, again, fault) (has, accepted) =
+    no_fault (fault_of tree) (record { at = at; why = why }) accepted (ap fault_of (sym (one_tree text tree second has again)) ∙ fault)
 
 one_read : (task : Task) (text : List ℕ) (o p : Outcome) → HasReadOutcome task text o → HasReadOutcome task text p → p ≡ o
 one_read task text o p (inl (a, is, o_is)) (inl (b, again, p_is)) = p_is ∙ ap (λ r. refused (refusal_text r)) (one_refusal text a b is again) ∙ sym o_is
 one_read task text o p (inl (a, is, o_is)) (inr (tree, again, p_is)) = absurd (refusal_or_tree text a tree is again)
 one_read task text o p (inr (tree, is, o_is)) (inl (b, again, p_is)) = absurd (refusal_or_tree text b tree again is)
-one_read task text o p (inr (tree, is, o_is)) (inr (other, again, p_is)) = p_is ∙ ap (tree_outcome task) (one_tree text tree other is again) ∙ sym o_is
+one_read task text o p (inr (tree, is, o_is)) (inr (other, again, p_is)) = p_is ∙ ap (tree_outcome task) (one_tree text tree other is.0 again.0) ∙ sym o_is
 
 one_text : (task : Task) (text : List ℕ) (o p : Outcome) → HasTextOutcome task text o → HasTextOutcome task text p → p ≡ o
 one_text task text o p (inl (long, o_is)) (inl (again, p_is)) = p_is ∙ sym o_is

@@ -1,5 +1,5 @@
 -- What a sum of constants sounds like: one channel of samples, and the file of it.
-use Rattle.std.specs.Prelude.{ℕ, List, [], ◌∷◌, max, map, fold, nat_lt, if◌then◌else◌, option_map, ℤ, pos}
+use Rattle.std.specs.Prelude.{ℕ, List, [], ◌∷◌, max, map, fold, nat_lt, if◌then◌else◌, option_and_then, option_map, ℤ, pos}
 use Rattle.std.specs.declared.option.Option.{Option}
 use Rattle.std.specs.List.{range_with_len}
 use Rattle.ny_num.specs.Numbers.{sat_sample, sample_add}
@@ -8,6 +8,8 @@ use Rattle.ny_num.specs.declared.rate.Rate.{Rate}
 use Rattle.ny_top.specs.declared.term.Term.{Term}
 use Rattle.ny_wav.specs.WavFile.{wav_of}
 use Rattle.ny_syntax.specs.declared.tree.Tree.{Tree}
+use Rattle.ny_check.specs.Code.{Code}
+use Rattle.ny_check.specs.Acceptance.{program_in}
 use Rattle.ny_top.specs.Form.{form_of}
 use Rattle.ny_top.specs.declared.constant.Written.{Written}
 
@@ -40,6 +42,10 @@ mono samples = map (λ sample. sample ∷ []) samples
 unfoldable pub file_of : Rate → List Written → List ℕ
 file_of rate constants = wav_of 1 rate (mono (channel_of (map (term_of rate) constants)))
 
--- the file of a tree at a rate; none where the tree can't be played yet
+-- the file of a program at a rate; none where it can't be played yet
+unfoldable pub program_file : Rate → Code → Option (List ℕ)
+program_file rate code = option_map (file_of rate) (form_of code)
+
+-- the file of the program of a tree
 unfoldable pub tree_file : Rate → Tree → Option (List ℕ)
-tree_file rate tree = option_map (file_of rate) (form_of tree)
+tree_file rate tree = option_and_then (program_file rate) (program_in tree)

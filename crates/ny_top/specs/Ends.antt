@@ -6,7 +6,7 @@ use Rattle.ny_io.specs.Faults.{Rose}
 use Rattle.ny_io.specs.Host.{Named, HostState, added, bytes_under}
 use Rattle.ny_syntax.specs.declared.tree.Tree.{Tree}
 use Rattle.ny_top.specs.Channel.{tree_file}
-use Rattle.ny_top.specs.Reading.{IsTreeOf}
+use Rattle.ny_top.specs.Reading.{IsAccepted}
 use Rattle.ny_top.specs.Words.{Task, Command, render, check}
 use Rattle.ny_top.specs.Outcome.{Outcome, usage_line, open_line, read_line, create_line, write_line, HasTextOutcome}
 use Rattle.ny_top.specs.declared.status.Status.{Status}
@@ -64,10 +64,10 @@ MadeTree (render r) tree old new =
     (new.created ≡ old.created)
     ⊎ ((bytes : List ℕ) × (count : ℕ) × (tree_file r.rate tree ≡ Some bytes) × (new.created ≡ added (r.to, take count bytes) old.created))
 
--- the same of the tree that a text has, if it has one
+-- the same of the tree that a text has, if it is accepted
 abbrev pub MadeText : Task → List ℕ → HostState → HostState → Type 0
 MadeText task text old new =
-    (new.created ≡ old.created) ⊎ ((tree : Tree) × IsTreeOf text tree × MadeTree task tree old new)
+    (new.created ≡ old.created) ⊎ ((tree : Tree) × IsAccepted text tree × MadeTree task tree old new)
 
 -- the same of the text under the input's name
 abbrev pub Makes : Command → HostState → HostState → Type 0

@@ -1,76 +1,53 @@
--- The trees that can be played: a sum of 1 to 100 constants, and nothing declared.
-use Rattle.std.specs.Prelude.{List, [], ◌∷◌, ◌++◌, length, nat_le, nat_eq, Option, Some, None, if◌then◌else◌, option_and_then, option_map, ℤ, codes}
-use Rattle.std.specs.Cmp.Lexicographic.{pointwise}
+-- The programs that can be played: a sum of 1 to 100 constants.
+use Rattle.std.specs.Prelude.{ℕ, zero, suc, List, [], ◌∷◌, ◌++◌, Option, Some, None, option_and_then, option_map, ℤ}
 use Rattle.ny_num.specs.Numbers.{fix_neg}
-use Rattle.ny_syntax.specs.declared.tree.Name.{Name}
-use Rattle.ny_syntax.specs.declared.tree.Expr.{Expr}
-use Rattle.ny_syntax.specs.declared.tree.Decl.{Decl}
-use Rattle.ny_syntax.specs.declared.tree.Tree.{Tree}
-use Rattle.ny_syntax.specs.declared.tree.BinOp.TheVariants as ops
-use Rattle.ny_syntax.specs.declared.tree.PreOp.TheVariants as before
-use Rattle.ny_syntax.specs.declared.tree.Form.TheFolds.{fold-Expr}
-use Rattle.ny_syntax.specs.declared.tree.Form.TheOpen.{Form-F, Expr-F, Bind-F}
+use Rattle.ny_check.specs.Code.{Code, node_at}
+use Rattle.ny_check.specs.declared.node.ExprId.{ExprId}
+use Rattle.ny_check.specs.declared.node.Node.{Node}
+use Rattle.ny_check.specs.declared.node.Node.TheVariants as node
 use Rattle.ny_top.specs.declared.constant.Written.{Written}
 
--- What an expression is as a part of a sum, each none where it is no such part: a literal; a literal that may have one minus
--- before it; a constant; constants that were added from the left.
-pub record Part : Type 0 where
-  pub literal : Option ℤ
-  pub value : Option ℤ
-  pub constant : Option Written
-  pub sum : Option (List Written)
+-- a literal
+abbrev pub literal_in : Node → Option ℤ
+literal_in (node.Number v) = Some v
+literal_in _ = None
 
--- no part of a sum
-abbrev pub no_part : Part
-no_part = record { literal = None; value = None; constant = None; sum = None }
+abbrev pub literal_at : Code → ExprId → Option ℤ
+literal_at code e = literal_in (node_at code e.0)
 
-abbrev pub literal_part : ℤ → Part
-literal_part v = record { literal = Some v; value = Some v; constant = None; sum = None }
+-- a literal with one minus before it at most
+abbrev pub value_in : Code → Node → Option ℤ
+value_in code (node.Number v) = Some v
+value_in code (node.Neg e) = option_map fix_neg (literal_at code e)
+value_in code _ = None
 
-abbrev pub minus_part : Part → Part
-minus_part e = record { literal = None; value = option_map fix_neg e.literal; constant = None; sum = None }
-
--- a constant, which is also a sum of one
-abbrev pub constant_part : Option Written → Part
-constant_part constant = record { literal = None; value = None; constant = constant; sum = option_map (λ c. c ∷ []) constant }
+abbrev pub value_at : Code → ExprId → Option ℤ
+value_at code e = value_in code (node_at code e.0)
 
 -- `const` of a value and of a literal of seconds
-abbrev pub written_constant : Name → Part → Part → Option Written
-written_constant name value seconds =
-    if pointwise nat_eq name.bytes (codes "const") then
-    option_and_then (λ v. option_map (λ s. record { value = v; seconds = s }) seconds.literal) value.value
-    else None
+abbrev pub constant_of : Code → ExprId → ExprId → Option Written
+constant_of code value seconds =
+    option_and_then (λ v. option_map (λ s. record { value = v; seconds = s }) (literal_at code seconds)) (value_at code value)
 
--- a sum and one constant more
-abbrev pub added_part : Part → Part → Part
-added_part sum constant =
-    record { literal = None; value = None; constant = None; sum = option_and_then (λ before. option_map (λ c. before ++ c ∷ []) constant.constant) sum.sum }
+abbrev pub constant_in : Code → Node → Option Written
+constant_in code (node.Const value seconds) = constant_of code value seconds
+constant_in code _ = None
 
-abbrev pub form_part : Form-F Part Part Part → Part
-form_part (Form-F.Number v) = literal_part v
-form_part (Form-F.Prefix before.Minus e) = minus_part e
-form_part (Form-F.Call name (value ∷ seconds ∷ [])) = constant_part (written_constant name value seconds)
-form_part (Form-F.Binary ops.Add a b) = added_part a b
-form_part _ = no_part
+abbrev pub constant_at : Code → ExprId → Option Written
+constant_at code e = constant_in code (node_at code e.0)
 
-abbrev pub bind_part : Bind-F Part Part Part → Part
-bind_part b = no_part
+-- the constants of a node: one, or those of a sum and one more
+abbrev pub summed : Code → (ExprId → Option (List Written)) → Node → Option (List Written)
+summed code sum (node.Const value seconds) = option_map (λ c. c ∷ []) (constant_of code value seconds)
+summed code sum (node.Add before last) =
+    option_and_then (λ constants. option_map (λ c. constants ++ c ∷ []) (constant_at code last)) (sum before)
+summed code sum _ = None
 
-abbrev pub expr_part : Expr-F Part Part Part → Part
-expr_part e = e.form
+-- the constants that were added from the left, so many at the most
+abbrev pub sum_of : Code → ℕ → ExprId → Option (List Written)
+sum_of code zero e = None
+sum_of code (suc most) e = summed code (sum_of code most) (node_at code e.0)
 
-abbrev pub part_of : Expr → Part
-part_of = fold-Expr Part Part Part form_part bind_part expr_part
-
--- the constants of a sum, 100 at most
-abbrev pub played_sum : Option Expr → Option (List Written)
-played_sum None = None
-played_sum (Some e) = option_and_then (λ constants. if nat_le (length constants) 100 then Some constants else None) (part_of e).sum
-
--- the constants of a tree; none where it can't be played yet
-unfoldable pub form_of : Tree → Option (List Written)
-form_of tree = declared tree.decls (played_sum tree.play)
-  where
-    declared : List Decl → Option (List Written) → Option (List Written)
-    declared [] sum = sum
-    declared (decl ∷ decls) sum = None
+-- the constants of a program; none where it can't be played yet
+unfoldable pub form_of : Code → Option (List Written)
+form_of code = sum_of code 100 code.play

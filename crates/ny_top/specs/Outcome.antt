@@ -5,7 +5,7 @@ use Rattle.ny_io.specs.Host.{Named, bytes_under}
 use Rattle.ny_syntax.specs.declared.tree.Tree.{Tree}
 use Rattle.ny_syntax.specs.Canonical.{canonical_text}
 use Rattle.ny_top.specs.declared.reading.Refusal.{Refusal}
-use Rattle.ny_top.specs.Reading.{IsTreeOf, IsRefusal, refusal_text}
+use Rattle.ny_top.specs.Reading.{IsAccepted, IsRefusal, refusal_text}
 use Rattle.ny_top.specs.Channel.{tree_file}
 use Rattle.ny_top.specs.Words.{Task, Command, render, check, read_words}
 use Rattle.ny_top.specs.declared.status.Status.{Status}
@@ -61,21 +61,21 @@ pub record Outcome : Type 0 where
 abbrev pub refused : List ℕ → Outcome
 refused line = record { status = Refused; file = None; printed = line }
 
--- the outcome for the file of a tree, or for a tree that can't be played yet
+-- the outcome for the file of a program, or for one that can't be played yet
 abbrev pub file_outcome : List ℕ → Option (List ℕ) → Outcome
 file_outcome to None = refused form_line
 file_outcome to (Some bytes) = record { status = Ok; file = Some (to, bytes); printed = [] }
 
--- the outcome for a tree
+-- the outcome for an accepted tree
 abbrev pub tree_outcome : Task → Tree → Outcome
 tree_outcome (render r) tree = file_outcome r.to (tree_file r.rate tree)
 tree_outcome check tree = record { status = Ok; file = None; printed = canonical_text tree }
 
--- the outcome for a text that is not too long: that of its tree, or its refusal
+-- the outcome for a text that is not too long: that of its tree, where it is accepted, or its refusal
 abbrev pub HasReadOutcome : Task → List ℕ → Outcome → Type 0
 HasReadOutcome task text o =
     ((refusal : Refusal) × IsRefusal text refusal × (o ≡ refused (refusal_text refusal)))
-    ⊎ ((tree : Tree) × IsTreeOf text tree × (o ≡ tree_outcome task tree))
+    ⊎ ((tree : Tree) × IsAccepted text tree × (o ≡ tree_outcome task tree))
 
 -- the outcome for a text
 abbrev pub HasTextOutcome : Task → List ℕ → Outcome → Type 0

@@ -1,93 +1,104 @@
-ghost use Rattle.std.specs.Prelude.{◌≡◌, ◌++◌, None, Some, IfOk, MatchOption, Option, length};
-ghost use Rattle.ny_top.specs.Form.{part_of, form_of, played_sum};
+ghost use Rattle.std.specs.Prelude.{◌≡◌, ◌<◌, ◌++◌, None, Some, IfOk, MatchOption, length};
+ghost use Rattle.ny_top.specs.Form.{literal_at, value_at, constant_of, constant_at, sum_of, form_of};
 
 use crate::constant::Written;
+use ny_check::{ExprId, Node, Program};
 use ny_num::Fix;
-use ny_syntax::{BinOp, Expr, Form, PreOp, Tree};
 use std::alloc::{AllocError, Global};
 
-/// The literal that an expression is.
-fn literal(e: &Expr) -> Option<Fix>
-    ensures { result ≡ (part_of e.now).literal }
+/// The literal that a node is.
+fn literal(program: &Program, e: ExprId) -> Option<Fix>
+    requires { e.0 < length program.now.nodes }
+    ensures { result ≡ literal_at program.now e }
 {
-    match &e.form {
-        Form::Number(value) => Some(*value),
+    match program.node(e) {
+        Node::Number(value) => Some(*value),
         _ => None,
     }
 }
 
-/// The literal that an expression is, with one minus before it at most.
-fn value(e: &Expr) -> Option<Fix>
-    ensures { result ≡ (part_of e.now).value }
+/// The literal that a node is, with one minus before it at most.
+fn value(program: &Program, e: ExprId) -> Option<Fix>
+    requires { e.0 < length program.now.nodes }
+    ensures { result ≡ value_at program.now e }
 {
-    match &e.form {
-        Form::Number(value) => Some(*value),
-        Form::Prefix(PreOp::Minus, e) => Some(literal(e.get())?.neg()),
+    match program.node(e) {
+        Node::Number(value) => Some(*value),
+        Node::Neg(e) => Some(literal(program, *e)?.neg()),
         _ => None,
     }
 }
 
-/// The constant that an expression is.
-fn constant(e: &Expr) -> Option<Written>
-    ensures { result ≡ (part_of e.now).constant }
+/// A constant of a value and of seconds, where both are literals.
+fn constant_of(program: &Program, v: ExprId, s: ExprId) -> Option<Written>
+    requires value { v.0 < length program.now.nodes }
+    requires seconds { s.0 < length program.now.nodes }
+    ensures { result ≡ constant_of program.now v s }
 {
-    match &e.form {
-        Form::Call(name, arguments) if name.bytes.as_slice() == b"const".as_slice() =>
-            match arguments.as_slice() {
-                [v, s] => Some(Written {
-                    value: value(v)?,
-                    seconds: literal(s)?,
-                }),
-                _ => None,
-            },
+    Some(Written {
+        value: value(program, v)?,
+        seconds: literal(program, s)?,
+    })
+}
+
+/// The constant that a node is.
+fn constant(program: &Program, e: ExprId) -> Option<Written>
+    requires { e.0 < length program.now.nodes }
+    ensures { result ≡ constant_at program.now e }
+{
+    match program.node(e) {
+        Node::Const(v, s) => constant_of(program, *v, *s),
         _ => None,
     }
 }
 
-/// The constants of a sum; none where an expression is no sum of constants.
-fn sum(alloc: Global, e: &Expr) -> Result<Option<Vec<Written>>, AllocError>
+/// The constants of a sum of so many at the most; none where a node is no such sum.
+fn sum(
+    alloc: Global,
+    program: &Program,
+    most: u32,
+    e: ExprId,
+) -> Result<Option<Vec<Written>>, AllocError>
+    requires { e.0 < length program.now.nodes }
     ensures { IfOk result (λ sum. MatchOption sum
-        ((part_of e.now).sum ≡ None)
-        (λ constants. (part_of e.now).sum ≡ Some constants.items)) }
+        (sum_of program.now most e ≡ None)
+        (λ constants. sum_of program.now most e ≡ Some constants.items)) }
 {
-    match &e.form {
-        Form::Binary(BinOp::Add, before, last) => {
-            let Some(mut constants) = sum(alloc, before.get())? else {
+    let Some(most) = most.checked_sub(1) else {
+        return Ok(None);
+    };
+    match program.node(e) {
+        Node::Const(v, s) => match constant_of(program, *v, *s) {
+            Some(only) => Ok(Some(vec![in alloc; only]?)),
+            None => Ok(None),
+        },
+        Node::Add(before, last) => {
+            let Some(mut constants) = sum(alloc, program, most, *before)? else {
                 return Ok(None);
             };
-            let Some(last) = constant(last.get()) else {
+            let Some(last) = constant(program, *last) else {
                 return Ok(None);
             };
             constants.push(last)?;
             Ok(Some(constants))
         }
-        Form::Call(_, _) => match constant(e) {
-            Some(only) => Ok(Some(vec![in alloc; only]?)),
-            None => Ok(None),
-        },
         _ => Ok(None),
     }
 }
 
 /// The most constants of a sum.
-const MOST: usize = 100;
+const MOST: u32 = 100;
 
-/// The constants of a tree; none where it can't be played yet (`docs/LANGUAGE.md`, "What can be
+/// The constants of a program; none where it can't be played yet (`docs/LANGUAGE.md`, "What can be
 /// played today").
 #[tactic(auto, unfolding(crate::specs::Form::form_of))]
-pub(crate) fn read_form(alloc: Global, tree: &Tree) -> Result<Option<Vec<Written>>, AllocError>
+pub(crate) fn read_form(
+    alloc: Global,
+    program: &Program,
+) -> Result<Option<Vec<Written>>, AllocError>
     ensures { IfOk result (λ form. MatchOption form
-        (form_of tree.now ≡ None)
-        (λ constants. form_of tree.now ≡ Some constants.items)) }
+        (form_of program.now ≡ None)
+        (λ constants. form_of program.now ≡ Some constants.items)) }
 {
-    let Some(e) = &tree.play else {
-        return Ok(None);
-    };
-    if !tree.decls.is_empty() {
-        return Ok(None);
-    }
-    match sum(alloc, e)? {
-        Some(constants) if constants.len() <= MOST => Ok(Some(constants)),
-        _ => Ok(None),
-    }
+    Ok(sum(alloc, program, MOST, program.play())?)
 }

@@ -1,8 +1,10 @@
-ghost use Rattle.std.specs.Prelude.{◌≡◌, ◌≤◌, length, IfOk, IfErr};
+ghost use Rattle.std.specs.Prelude.{◌≡◌, ◌≤◌, length, Some, IfOk, IfErr};
 ghost use Rattle.ny_syntax.specs.Grammar.{height_limit};
 ghost use Rattle.ny_syntax.specs.Canonical.{canonical_height};
-ghost use Rattle.ny_top.specs.Reading.{IsTreeOf, IsTextFault, why_name, refusal_text};
+ghost use Rattle.ny_check.specs.Acceptance.{program_in};
+ghost use Rattle.ny_top.specs.Reading.{IsTreeOf, IsAccepted, IsTextFault, why_name, fault_name, refusal_text};
 
+use ny_check::{CheckFault, CheckWhy, Program, check_tree};
 use ny_lex::{LexFault, LexWhy, lex};
 use ny_parse::{ParseFault, parse};
 use ny_report::refusal_line;
@@ -14,6 +16,7 @@ use std::alloc::{AllocError, Global};
 pub enum Refusal {
     Lex { at: u32, why: LexWhy },
     Parse { at: u32 },
+    Check { at: u32, why: CheckWhy },
 }
 
 /// Why a text was not read.
@@ -23,8 +26,15 @@ pub(crate) enum TextFault {
     OutOfMemory,
 }
 
+/// An accepted text: its tree and its program.
+#[derive(Drop)]
+pub(crate) struct Accepted {
+    pub(crate) tree: Tree,
+    pub(crate) program: Program,
+}
+
 /// The tree of a text, or why it has none.
-pub(crate) fn read_tree(alloc: Global, text: &[u8]) -> Result<Tree, TextFault>
+fn read_tree(alloc: Global, text: &[u8]) -> Result<Tree, TextFault>
     requires { length text.now ≤ 1048576 }
     ensures tree { IfOk result (λ tree. IsTreeOf text.now tree) }
     ensures height { IfOk result (λ tree. canonical_height tree ≤ height_limit) }
@@ -42,6 +52,25 @@ pub(crate) fn read_tree(alloc: Global, text: &[u8]) -> Result<Tree, TextFault>
     }
 }
 
+/// The tree and the program of a text, or why it is refused.
+pub(crate) fn read_text(alloc: Global, text: &[u8]) -> Result<Accepted, TextFault>
+    requires { length text.now ≤ 1048576 }
+    ensures tree { IfOk result (λ accepted. IsAccepted text.now accepted.tree) }
+    ensures height { IfOk result (λ accepted. canonical_height accepted.tree ≤ height_limit) }
+    ensures program { IfOk result (λ accepted. program_in accepted.tree ≡ Some accepted.program) }
+    ensures fault { IfErr result (λ fault. IsTextFault text.now fault) }
+{
+    let tree = match read_tree(alloc, text) {
+        Ok(tree) => tree,
+        Err(fault) => return Err(fault),
+    };
+    match check_tree(alloc, &tree) {
+        Ok(program) => Ok(Accepted { tree, program }),
+        Err(CheckFault::Bad { at, why }) => Err(TextFault::Refused(Refusal::Check { at, why })),
+        Err(CheckFault::OutOfMemory) => Err(TextFault::OutOfMemory),
+    }
+}
+
 fn name_of(why: LexWhy) -> &'static str
     ensures { result.now ≡ why_name why }
 {
@@ -54,6 +83,26 @@ fn name_of(why: LexWhy) -> &'static str
     }
 }
 
+fn fault_name(why: CheckWhy) -> &'static str
+    ensures { result.now ≡ fault_name why }
+{
+    match why {
+        CheckWhy::UnknownName => "UnknownName",
+        CheckWhy::Redefined => "Redefined",
+        CheckWhy::NotYetDefined => "NotYetDefined",
+        CheckWhy::Arity => "Arity",
+        CheckWhy::Kind => "Kind",
+        CheckWhy::BadCount => "BadCount",
+        CheckWhy::BadMap => "BadMap",
+        CheckWhy::BadRate => "BadRate",
+        CheckWhy::ZeroDivisor => "ZeroDivisor",
+        CheckWhy::NoPlay => "NoPlay",
+        CheckWhy::TooManyChannels => "TooManyChannels",
+        CheckWhy::TooDeep => "TooDeep",
+        CheckWhy::TooHeavy => "TooHeavy",
+    }
+}
+
 /// The line of a refusal.
 pub(crate) fn line_of(alloc: Global, refusal: Refusal) -> Result<Vec<u8>, AllocError>
     ensures { IfOk result (λ line. line.items ≡ refusal_text refusal) }
@@ -61,5 +110,6 @@ pub(crate) fn line_of(alloc: Global, refusal: Refusal) -> Result<Vec<u8>, AllocE
     match refusal {
         Refusal::Lex { at, why } => refusal_line(alloc, "lex", at, name_of(why)),
         Refusal::Parse { at } => refusal_line(alloc, "parse", at, ""),
+        Refusal::Check { at, why } => refusal_line(alloc, "check", at, fault_name(why)),
     }
 }

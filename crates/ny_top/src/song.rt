@@ -1,13 +1,14 @@
 ghost use Rattle.std.specs.Prelude.{◌≡◌, ◌≤◌, ◌*◌, ◌++◌, None, Some, length, IfOk, MatchOption};
 ghost use Rattle.ny_num.specs.Grid.{last_index};
 ghost use Rattle.ny_wav.specs.WavFile.{wav_of, header_of, frame_of};
+ghost use Rattle.ny_check.specs.Acceptance.{program_in};
 ghost use Rattle.ny_top.specs.Channel.{longest, channel_of, mono, file_of, tree_file};
 
 use crate::form::read_form;
+use crate::reading::Accepted;
 use crate::sum::channel;
 use crate::term::{Term, terms};
 use ny_num::{Rate, Sample};
-use ny_syntax::Tree;
 use ny_wav::{frame_bytes, header};
 use std::alloc::{AllocError, Global};
 
@@ -41,14 +42,19 @@ fn sum_file(alloc: Global, rate: Rate, terms: &[Term]) -> Result<Wav, AllocError
     })
 }
 
-/// The file of a tree; none where the tree can't be played yet.
-#[tactic(auto, unfolding(crate::specs::Channel::file_of, crate::specs::Channel::tree_file))]
-pub(crate) fn song(alloc: Global, rate: Rate, tree: &Tree) -> Result<Option<Wav>, AllocError>
+/// The file of an accepted text; none where it can't be played yet.
+#[tactic(auto, unfolding(crate::specs::Channel::file_of, crate::specs::Channel::program_file, crate::specs::Channel::tree_file))]
+pub(crate) fn song(
+    alloc: Global,
+    rate: Rate,
+    accepted: &Accepted,
+) -> Result<Option<Wav>, AllocError>
+    requires { program_in accepted.now.tree ≡ Some accepted.now.program }
     ensures { IfOk result (λ song. MatchOption song
-        (tree_file rate tree.now ≡ None)
-        (λ wav. tree_file rate tree.now ≡ Some (wav.header ++ wav.frames.items))) }
+        (tree_file rate accepted.now.tree ≡ None)
+        (λ wav. tree_file rate accepted.now.tree ≡ Some (wav.header ++ wav.frames.items))) }
 {
-    let Some(written) = read_form(alloc, tree)? else {
+    let Some(written) = read_form(alloc, &accepted.program)? else {
         return Ok(None);
     };
     let terms = terms(alloc, rate, &written)?;

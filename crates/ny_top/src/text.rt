@@ -1,9 +1,10 @@
-ghost use Rattle.std.specs.Prelude.{◌≡◌, ◌≢◌, ◌≤◌, ◌⊎◌, length, IsTrue};
+ghost use Rattle.std.specs.Prelude.{◌≡◌, ◌≢◌, ◌≤◌, ◌⊎◌, length, Some, IsTrue};
 ghost use Rattle.std.specs.Io.KnownBytes.{append_known};
 ghost use Rattle.ny_io.specs.Faults.{Rose};
 ghost use Rattle.ny_io.specs.Host.{NoneFell, SameOutput};
 ghost use Rattle.ny_syntax.specs.Grammar.{height_limit};
 ghost use Rattle.ny_syntax.specs.Canonical.{canonical_height, canonical_text};
+ghost use Rattle.ny_check.specs.Acceptance.{program_in};
 ghost use Rattle.ny_top.specs.Reading.{refusal_text};
 ghost use Rattle.ny_top.specs.Outcome.{HasReadOutcome, tree_outcome, refused};
 ghost use Rattle.ny_top.specs.Ends.{FaultTold, ToldAs, EndsAs, MadeTree, MadeText, CreateCause, CreateTold, IsOutcome, is_whole};
@@ -11,7 +12,7 @@ ghost use Rattle.ny_top.specs.Views.{task_view};
 
 use crate::ends::finish;
 use crate::play::play;
-use crate::reading::{Refusal, TextFault, line_of, read_tree};
+use crate::reading::{Accepted, Refusal, TextFault, line_of, read_text};
 use crate::status::Status;
 use crate::words::Task;
 use ny_io::Host;
@@ -53,23 +54,24 @@ fn print_canonical<H: Host>(alloc: Global, host: &mut H, tree: &Tree) -> Status
     }
 }
 
-/// Does what is asked for with a tree.
-fn run_tree<H: Host>(alloc: Global, host: &mut H, task: Task, tree: &Tree) -> Status
-    requires { canonical_height tree.now ≤ height_limit }
+/// Does what is asked for with an accepted text.
+fn run_accepted<H: Host>(alloc: Global, host: &mut H, task: Task, accepted: &Accepted) -> Status
+    requires height { canonical_height accepted.now.tree ≤ height_limit }
+    requires program { program_in accepted.now.tree ≡ Some accepted.now.program }
     ensures counts { NoneFell (H.state host.old) (H.state host.new) }
     ensures files { (H.state host.new).files ≡ (H.state host.old).files }
     ensures status { (result ≢ Status.Usage) × (result ≢ Status.ReadFault) × (result ≢ Status.PoolFull) }
-    ensures whole { IsTrue (is_whole result) → IsOutcome (tree_outcome (task_view task.entry) tree.now) result (H.state host.old) (H.state host.new) }
+    ensures whole { IsTrue (is_whole result) → IsOutcome (tree_outcome (task_view task.entry) accepted.now.tree) result (H.state host.old) (H.state host.new) }
     ensures create { result ≡ Status.OpenFault → CreateCause (task_view task.entry) (H.state host.old) (H.state host.new) }
     ensures write { result ≡ Status.WriteFault → Rose (H.state host.old).writes (H.state host.new).writes }
-    ensures told { result ≡ Status.WriteFault → FaultTold (tree_outcome (task_view task.entry) tree.now).printed (H.state host.old) (H.state host.new)
+    ensures told { result ≡ Status.WriteFault → FaultTold (tree_outcome (task_view task.entry) accepted.now.tree).printed (H.state host.old) (H.state host.new)
         ⊎ CreateTold (task_view task.entry) (H.state host.old) (H.state host.new) }
     ensures memory { result ≡ Status.OutOfMemory → (H.state host.new).printed ≡ (H.state host.old).printed }
-    ensures part { MadeTree (task_view task.entry) tree.now (H.state host.old) (H.state host.new) }
+    ensures part { MadeTree (task_view task.entry) accepted.now.tree (H.state host.old) (H.state host.new) }
 {
     match task {
-        Task::Render(render) => play(alloc, host, render, tree),
-        Task::Check => print_canonical(alloc, host, tree),
+        Task::Render(render) => play(alloc, host, render, accepted),
+        Task::Check => print_canonical(alloc, host, &accepted.tree),
     }
 }
 
@@ -87,8 +89,8 @@ pub(crate) fn run_text<H: Host>(alloc: Global, host: &mut H, task: Task, text: &
     ensures memory { result ≡ Status.OutOfMemory → (H.state host.new).printed ≡ (H.state host.old).printed }
     ensures part { MadeText (task_view task.entry) text.now (H.state host.old) (H.state host.new) }
 {
-    match read_tree(alloc, text) {
-        Ok(tree) => run_tree(alloc, host, task, &tree),
+    match read_text(alloc, text) {
+        Ok(accepted) => run_accepted(alloc, host, task, &accepted),
         Err(TextFault::Refused(refusal)) => refuse(alloc, host, refusal),
         Err(TextFault::OutOfMemory) => Status::OutOfMemory,
     }

@@ -1,0 +1,5 @@
+pub mod Code
+pub mod Writing
+pub mod Acceptance
+pub mod Recursion
+pub mod Values

@@ -1,0 +1,24 @@
+use ny_num::Fix;
+use ny_resolve::NameId;
+use sqlite_items::Items;
+
+/// What a name stands for.
+#[derive(Debug, Drop)]
+pub enum Value<S> {
+    Number(Fix),
+    Sound(S),
+}
+
+/// What local names stand for; the last pair of a name counts.
+#[derive(Debug, Drop)]
+pub struct Binds<S> {
+    pub names: Items<(NameId, Value<S>)>,
+}
+
+/// What an expression is, with its value where it is no sound.
+#[derive(Clone, Copy, Debug, PartialEq, Eq)]
+pub enum Scalar {
+    Number(Fix),
+    Test(bool),
+    Sound,
+}

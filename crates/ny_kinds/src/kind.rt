@@ -1,0 +1,77 @@
+use sqlite_items::Items;
+use std::alloc::{AllocError, AllocFailed};
+
+/// What an expression gives (`docs/LANGUAGE.md`, "Kinds").
+#[derive(Clone, Copy, Debug, PartialEq, Eq)]
+pub enum Kind {
+    Number,
+    Sound,
+    Test,
+    /// So many sounds side by side.
+    Channels(usize),
+}
+
+/// What an operator says of its operands' kinds.
+#[derive(Clone, Copy, Debug, PartialEq, Eq)]
+pub enum Judgement {
+    /// The expression is of this kind.
+    Is(Kind),
+    /// The operands are refused.
+    Refused,
+    /// An operand has no kind, so nothing is said.
+    Silent,
+}
+
+/// The kind of an expression, if it has one, and the least place of a refusal that was met.
+#[derive(Clone, Copy, Debug, PartialEq, Eq)]
+pub struct Found {
+    pub kind: Option<Kind>,
+    pub fault: Option<u32>,
+}
+
+/// A function, by the number of its declaration, with the kinds of its arguments.
+#[derive(Debug, Drop)]
+pub struct Use {
+    pub number: u32,
+    pub kinds: Items<Kind>,
+}
+
+/// What the body of a function is for these kinds.
+#[derive(Debug, Drop)]
+pub struct Entry {
+    pub number: u32,
+    pub kinds: Items<Kind>,
+    pub found: Found,
+    /// Where the entry before it for this function stands, counted from 1; or 0.
+    pub earlier: usize,
+}
+
+/// Why an expression is not judged yet.
+#[derive(Debug, Drop)]
+pub enum Stop {
+    /// These functions are to be judged first.
+    Missing(Items<Use>),
+    OutOfMemory,
+}
+
+impl From<AllocError> for Stop {
+    ghost use Rattle.std.specs.Prelude.{◌≡◌};
+    ghost use Rattle.ny_kinds.specs.declared.kind.Stop.TheVariants.{OutOfMemory};
+
+    ghost from_gives = { λ e s. s ≡ OutOfMemory };
+
+    fn from(_error: AllocError) -> Stop {
+        Stop::OutOfMemory
+    }
+}
+
+impl<T: Drop> From<AllocFailed<T>> for Stop {
+    ghost use Rattle.std.specs.Prelude.{◌≡◌};
+    ghost use Rattle.ny_kinds.specs.declared.kind.Stop.TheVariants.{OutOfMemory};
+
+    ghost from_gives = { λ e s. s ≡ OutOfMemory };
+
+    fn from(_error: AllocFailed<T>) -> Stop {
+        Stop::OutOfMemory
+    }
+}

@@ -1,0 +1,127 @@
+ghost use Rattle.std.specs.Prelude.{◌≡◌, ◌<◌, ◌≤◌, ◌^◌, length, All, IfOk, None, get_or};
+ghost use Rattle.ny_resolve.specs.declared.term.Declared.{Declared as DeclaredOf};
+ghost use Rattle.ny_kinds.specs.Kinds.{kind_of, scope_of};
+ghost use Rattle.ny_kinds.specs.Table.{IsRight};
+ghost use Rattle.ny_kinds.specs.Whole.{value_row, play_row, is_playable, value_kind, values_fault, play_kind, text_kind, channels_in};
+
+use crate::judging::{Table, judged};
+use crate::kind::{Found, Judgement, Kind};
+use crate::resolve::root_kind;
+use ny_resolve::{Declared, Part};
+use std::alloc::{AllocError, Global};
+
+fn value_row(kind: Option<Kind>) -> Judgement
+    ensures { result ≡ value_row kind }
+{
+    match kind {
+        None => Judgement::Silent,
+        Some(Kind::Number) => Judgement::Is(Kind::Number),
+        Some(_) => Judgement::Refused,
+    }
+}
+
+fn is_playable(kind: Kind) -> bool
+    ensures { result ≡ is_playable kind }
+{
+    matches!(kind, Kind::Sound | Kind::Channels(_))
+}
+
+fn play_row(kind: Option<Kind>) -> Judgement
+    ensures { result ≡ play_row kind }
+{
+    match kind {
+        None => Judgement::Silent,
+        Some(kind) => {
+            if is_playable(kind) {
+                Judgement::Is(kind)
+            } else {
+                Judgement::Refused
+            }
+        }
+    }
+}
+
+fn value_kind(
+    alloc: Global,
+    ds: &[Declared],
+    table: &mut Table,
+    here: u32,
+    best: Option<u32>,
+) -> Result<Found, AllocError>
+    requires few { length ds.now < 2 ^ 32 }
+    requires here { here < length ds.now }
+    requires known { All (IsRight ds.now) table.old.entries.items }
+    ensures found { (d : DeclaredOf) → IfOk result (λ f. f ≡ value_kind ds.now here (get_or ds.now here d) best) }
+    ensures known { All (IsRight ds.now) table.new.entries.items }
+{
+    let d = &ds[here as usize];
+    let found = root_kind(alloc, ds, table, here, &d.body, best)?;
+    Ok(judged(d.body.at, value_row(found.kind), found.fault))
+}
+
+fn values_fault(
+    alloc: Global,
+    ds: &[Declared],
+    table: &mut Table,
+) -> Result<Option<u32>, AllocError>
+    requires few { length ds.now < 2 ^ 32 }
+    requires known { All (IsRight ds.now) table.old.entries.items }
+    ensures fault { IfOk result (λ f. f ≡ values_fault ds.now 0 ds.now None) }
+    ensures known { All (IsRight ds.now) table.new.entries.items }
+{
+    let mut best = None;
+    for i in 0..ds.len() {
+        if ds[i].is_variable {
+            best = value_kind(alloc, ds, table, i as u32, best)?.fault;
+        }
+    }
+    Ok(best)
+}
+
+fn play_kind(
+    alloc: Global,
+    ds: &[Declared],
+    table: &mut Table,
+    play: &Option<Part>,
+    best: Option<u32>,
+) -> Result<Found, AllocError>
+    requires few { length ds.now < 2 ^ 32 }
+    requires known { All (IsRight ds.now) table.old.entries.items }
+    ensures found { IfOk result (λ f. f ≡ play_kind ds.now play.now best) }
+{
+    match play {
+        None => Ok(Found {
+            kind: None,
+            fault: best,
+        }),
+        Some(e) => {
+            let found = root_kind(alloc, ds, table, ds.len() as u32, e, best)?;
+            Ok(judged(e.at, play_row(found.kind), found.fault))
+        }
+    }
+}
+
+/// The kind of what a text plays, and the least place of a refusal in its global values, in what it plays
+/// and in the functions that these reach.
+#[tactic(auto, unfolding(crate::specs::Whole::text_kind))]
+pub fn text_kind(alloc: Global, ds: &[Declared], play: &Option<Part>) -> Result<Found, AllocError>
+    ensures { IfOk result (λ f. f ≡ text_kind ds.now play.now) }
+{
+    if ds.len() > 0xffff_ffff {
+        return Err(AllocError);
+    }
+    let mut table = Table::new(alloc, ds.len())?;
+    let best = values_fault(alloc, ds, &mut table)?;
+    play_kind(alloc, ds, &mut table, play, best)
+}
+
+/// How many channels what is played has.
+pub fn channels(kind: Option<Kind>) -> u32
+    ensures value { result ≡ channels_in kind }
+    ensures within { (1 ≤ result) × (result ≤ 8) }
+{
+    match kind {
+        Some(Kind::Channels(count)) => count.min(8).max(1) as u32,
+        _ => 1,
+    }
+}

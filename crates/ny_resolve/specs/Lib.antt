@@ -1,0 +1,6 @@
+pub mod Faults
+pub mod Builtins
+pub mod Literals
+pub mod Names
+pub mod Reading
+pub mod Declarations

@@ -1,0 +1,469 @@
+ghost use Rattle.std.specs.Prelude.{◌≡◌, ◌+◌, IfOk, OnOk, map, [], ◌∷◌, length, not, ℕ, pos, if◌then◌else◌};
+ghost use Rattle.ny_resolve.specs.declared.term.Term.TheVariants as term;
+ghost use Rattle.ny_resolve.specs.declared.names.Names.{Names as NamesOf};
+ghost use Rattle.ny_resolve.specs.Builtins.{builtin_of, arity_of, fits};
+ghost use Rattle.ny_resolve.specs.Names.{scope_of, local_of, with_local, again_noted, seen_after};
+ghost use Rattle.ny_resolve.specs.Reading.{reading, reading_of_bind, ReadPart, ReadParts, ReadBinds, value_named, with_counter, argument_scope, argument_read, arguments_read, first_counter, first_place, builtin_term, read_as, builtin_called, function_called, called, read_parts, read_binds, operator_of, prefix_operator, is_division};
+
+use crate::builtin::{Builtin, Operator, Relation, built_in, takes};
+use crate::calls::{
+    argument_noted, builtin_term, call_noted, first_counter, first_place, function_term,
+    global_term, is_counter, is_warp_map, no_part, sees_counter,
+};
+use crate::fault::{CheckWhy, Fault, noted_if};
+use crate::literals::{is_zero, value};
+use crate::names::{
+    Names, function_named, function_noted, local_named, variable_named, variable_noted,
+};
+use crate::term::{Bound, NameId, Part, Term};
+use crate::word::Word;
+use indexmap::IndexMap;
+use ny_syntax::{BinOp, Bind, Expr, Form, Name, PreOp};
+use sqlite_items::{Boxed, Items};
+use std::alloc::{AllocError, Global};
+
+/// What was read, and the first of the faults noted so far.
+#[derive(Debug, Drop)]
+pub struct Read {
+    pub part: Part,
+    pub first: Option<Fault>,
+}
+
+/// Parts that were read, and the first of the faults noted so far.
+#[derive(Debug, Drop)]
+struct ReadMany {
+    parts: Items<Part>,
+    first: Option<Fault>,
+}
+
+/// Binds that were read, the local names after them, and the first of the faults noted so far.
+#[derive(Debug, Drop)]
+struct ReadBlock<'t> {
+    binds: Items<Bound>,
+    locals: Vec<(Word<'t>, NameId)>,
+    first: Option<Fault>,
+}
+
+fn operator_of(operator: BinOp) -> Operator
+    ensures { result ≡ operator_of operator }
+{
+    match operator {
+        BinOp::Or => Operator::Or,
+        BinOp::And => Operator::And,
+        BinOp::Eq => Operator::Compare(Relation::Eq),
+        BinOp::Ne => Operator::Compare(Relation::Ne),
+        BinOp::Lt => Operator::Compare(Relation::Lt),
+        BinOp::Gt => Operator::Compare(Relation::Gt),
+        BinOp::Le => Operator::Compare(Relation::Le),
+        BinOp::Ge => Operator::Compare(Relation::Ge),
+        BinOp::Add => Operator::Add,
+        BinOp::Sub => Operator::Sub,
+        BinOp::Mul => Operator::Mul,
+        BinOp::Div => Operator::Mul,
+        BinOp::At => Operator::Placed,
+        BinOp::Stretch => Operator::Stretched,
+    }
+}
+
+fn prefix_operator(operator: PreOp) -> Operator
+    ensures { result ≡ prefix_operator operator }
+{
+    match operator {
+        PreOp::Minus => Operator::Neg,
+        PreOp::Not => Operator::Not,
+    }
+}
+
+fn is_division(operator: BinOp) -> bool
+    ensures { result ≡ is_division operator }
+{
+    matches!(operator, BinOp::Div)
+}
+
+/// Local names, once more.
+fn copied<'t>(
+    alloc: Global,
+    locals: &[(Word<'t>, NameId)],
+) -> Result<Vec<(Word<'t>, NameId)>, AllocError>
+    ensures { IfOk result (λ all. all.items ≡ locals.now) }
+{
+    let mut all = Vec::new(alloc);
+    for (word, name) in locals {
+        all.push((word.copy(), *name))?;
+    }
+    Ok(all)
+}
+
+/// The local names where a repeat's counter, if it has one, is bound at this place.
+fn with_counter<'t>(
+    alloc: Global,
+    locals: &[(Word<'t>, NameId)],
+    counter: &Option<Word<'t>>,
+    at: u32,
+) -> Result<Vec<(Word<'t>, NameId)>, AllocError>
+    ensures { (names : NamesOf) → (here : ℕ) → IfOk result (λ all. scope_of names here all.items ≡ with_counter counter.now at (scope_of names here locals.now)) }
+{
+    let mut all = copied(alloc, locals)?;
+    if let Some(word) = counter {
+        all.push((word.copy(), NameId(at)))?;
+    }
+    Ok(all)
+}
+
+/// A value name.
+fn name_read<'t>(
+    names: &Names<'t>,
+    here: u32,
+    locals: &[(Word<'t>, NameId)],
+    at: u32,
+    x: &'t Name,
+    first: Option<Fault>,
+) -> Read
+    ensures { record { part = result.part; first = result.first } ≡ value_named at x.now.bytes (scope_of names.now here locals.now) (local_of x.now.bytes (scope_of names.now here locals.now)) first }
+{
+    match local_named(locals, x.bytes.as_slice()) {
+        Some(name) => Read {
+            part: Part {
+                at,
+                term: Term::Local(name),
+            },
+            first,
+        },
+        None => {
+            let number = variable_named(&names.variables, &Word::of(x));
+            Read {
+                part: Part {
+                    at,
+                    term: global_term(number),
+                },
+                first: variable_noted(at, here, number, first),
+            }
+        }
+    }
+}
+
+/// The term that an expression is, and the first of the faults noted before and in it.
+#[cycle(read)]
+pub(crate) fn read_expr<'t>(
+    alloc: Global,
+    names: &Names<'t>,
+    here: u32,
+    locals: &[(Word<'t>, NameId)],
+    e: &'t Expr,
+    first: Option<Fault>,
+) -> Result<Read, AllocError>
+    ensures { IfOk result (λ r. record { part = r.part; first = r.first } ≡ (reading e.now).read (scope_of names.now here locals.now) first) }
+{
+    match &e.form {
+        Form::Number(v) => Ok(Read {
+            part: Part {
+                at: e.at,
+                term: Term::Number(*v),
+            },
+            first,
+        }),
+        Form::Name(x) => Ok(name_read(names, here, locals, e.at, x, first)),
+        Form::Call(x, parts) => Ok(read_call(
+            alloc,
+            names,
+            here,
+            locals,
+            e.at,
+            x,
+            parts.as_slice(),
+            first,
+        )?),
+        Form::If(c, a, b) => {
+            let c = read_expr(alloc, names, here, locals, c.get(), first)?;
+            let a = read_expr(alloc, names, here, locals, a.get(), c.first)?;
+            let b = read_expr(alloc, names, here, locals, b.get(), a.first)?;
+            let parts = three(alloc, c.part, a.part, b.part)?;
+            Ok(applied(e.at, Operator::If, parts, b.first))
+        }
+        Form::Block(binds, value) => {
+            let binds = read_each_bind(alloc, names, here, locals, binds.as_slice(), first)?;
+            let value = read_expr(
+                alloc,
+                names,
+                here,
+                binds.locals.as_slice(),
+                value.get(),
+                binds.first,
+            )?;
+            Ok(Read {
+                part: Part {
+                    at: e.at,
+                    term: Term::Block(binds.binds, Boxed::new(alloc, value.part)?),
+                },
+                first: value.first,
+            })
+        }
+        Form::Binary(operator, a, b) => {
+            if is_division(*operator) {
+                let by = value(b.get());
+                let first = noted_if(is_zero(by), CheckWhy::ZeroDivisor, e.at, first);
+                let a = read_expr(alloc, names, here, locals, a.get(), first)?;
+                Ok(Read {
+                    part: Part {
+                        at: e.at,
+                        term: Term::Over(Boxed::new(alloc, a.part)?, by),
+                    },
+                    first: a.first,
+                })
+            } else {
+                let a = read_expr(alloc, names, here, locals, a.get(), first)?;
+                let b = read_expr(alloc, names, here, locals, b.get(), a.first)?;
+                let parts = two(alloc, a.part, b.part)?;
+                Ok(applied(e.at, operator_of(*operator), parts, b.first))
+            }
+        }
+        Form::Prefix(operator, a) => {
+            let a = read_expr(alloc, names, here, locals, a.get(), first)?;
+            let parts = one(alloc, a.part)?;
+            Ok(applied(e.at, prefix_operator(*operator), parts, a.first))
+        }
+    }
+}
+
+fn one(alloc: Global, a: Part) -> Result<Items<Part>, AllocError>
+    ensures { IfOk result (λ parts. parts ≡ a ∷ []) }
+{
+    let mut parts = Items::new(alloc);
+    parts.push(a)?;
+    Ok(parts)
+}
+
+fn two(alloc: Global, a: Part, b: Part) -> Result<Items<Part>, AllocError>
+    ensures { IfOk result (λ parts. parts ≡ a ∷ b ∷ []) }
+{
+    let mut parts = one(alloc, a)?;
+    parts.push(b)?;
+    Ok(parts)
+}
+
+fn three(alloc: Global, a: Part, b: Part, c: Part) -> Result<Items<Part>, AllocError>
+    ensures { IfOk result (λ parts. parts ≡ a ∷ b ∷ c ∷ []) }
+{
+    let mut parts = two(alloc, a, b)?;
+    parts.push(c)?;
+    Ok(parts)
+}
+
+fn applied(at: u32, operator: Operator, parts: Items<Part>, first: Option<Fault>) -> Read
+    ensures { record { part = result.part; first = result.first } ≡ read_as at (term.Apply operator parts) first }
+{
+    Read {
+        part: Part {
+            at,
+            term: Term::Apply(operator, parts),
+        },
+        first,
+    }
+}
+
+#[cycle(read)]
+fn read_call<'t>(
+    alloc: Global,
+    names: &Names<'t>,
+    here: u32,
+    locals: &[(Word<'t>, NameId)],
+    at: u32,
+    x: &'t Name,
+    parts: &'t [Expr],
+    first: Option<Fault>,
+) -> Result<Read, AllocError>
+    ensures { IfOk result (λ r. record { part = r.part; first = r.first } ≡ called at x.now.bytes (builtin_of x.now.bytes) (map reading parts.now) (scope_of names.now here locals.now) first) }
+{
+    match built_in(x.bytes.as_slice()) {
+        Some(builtin) => {
+            let good = takes(builtin, parts.len());
+            let first = call_noted(at, builtin, parts.len(), first);
+            let read = read_arguments(alloc, names, here, locals, builtin, parts, first)?;
+            let term = term_if(alloc, good, builtin, parts, read.parts)?;
+            Ok(Read {
+                part: Part { at, term },
+                first: read.first,
+            })
+        }
+        None => {
+            let called = function_named(&names.functions, &Word::of(x));
+            let first = function_noted(at, here, parts.len(), called, first);
+            let read = read_each(alloc, names, here, locals, parts, first)?;
+            Ok(Read {
+                part: Part {
+                    at,
+                    term: function_term(called, read.parts),
+                },
+                first: read.first,
+            })
+        }
+    }
+}
+
+/// The term of a call with a right number of arguments.
+fn term_if(
+    alloc: Global,
+    good: bool,
+    builtin: Builtin,
+    arguments: &[Expr],
+    parts: Items<Part>,
+) -> Result<Term, AllocError>
+    ensures { IfOk result (λ t. t ≡ (if good then builtin_term builtin (map reading arguments.now) parts else term.Number (pos 0))) }
+{
+    if good {
+        builtin_term(alloc, builtin, arguments, parts)
+    } else {
+        Ok(no_part(0).term)
+    }
+}
+
+#[cycle(read)]
+fn read_each<'t>(
+    alloc: Global,
+    names: &Names<'t>,
+    here: u32,
+    locals: &[(Word<'t>, NameId)],
+    parts: &'t [Expr],
+    first: Option<Fault>,
+) -> Result<ReadMany, AllocError>
+    ensures { IfOk result (λ r. record { parts = r.parts; first = r.first } ≡ read_parts (map reading parts.now) (scope_of names.now here locals.now) [] first) }
+{
+    let mut done = Items::new(alloc);
+    let mut first = first;
+    for part in parts {
+        let read = read_expr(alloc, names, here, locals, part, first)?;
+        first = read.first;
+        done.push(read.part)?;
+    }
+    Ok(ReadMany { parts: done, first })
+}
+
+/// The faults of the arguments of a call.
+#[cycle(read)]
+fn read_inside<'t>(
+    alloc: Global,
+    names: &Names<'t>,
+    here: u32,
+    locals: &[(Word<'t>, NameId)],
+    e: &'t Expr,
+    first: Option<Fault>,
+) -> Result<Option<Fault>, AllocError>
+    ensures { IfOk result (λ f. f ≡ (reading e.now).arguments (scope_of names.now here locals.now) first) }
+{
+    match &e.form {
+        Form::Call(_, parts) => {
+            let read = read_each(alloc, names, here, locals, parts.as_slice(), first)?;
+            Ok(read.first)
+        }
+        _ => Ok(first),
+    }
+}
+
+#[cycle(read)]
+fn read_argument<'t>(
+    alloc: Global,
+    names: &Names<'t>,
+    here: u32,
+    locals: &[(Word<'t>, NameId)],
+    builtin: Builtin,
+    counter: &Option<Word<'t>>,
+    at: u32,
+    j: usize,
+    e: &'t Expr,
+    first: Option<Fault>,
+) -> Result<Read, AllocError>
+    ensures { IfOk result (λ r. record { part = r.part; first = r.first } ≡ argument_read builtin counter.now at j (reading e.now) (scope_of names.now here locals.now) first) }
+{
+    let first = argument_noted(alloc, builtin, j, e, first)?;
+    if is_counter(builtin, j, e) {
+        return Ok(Read {
+            part: no_part(e.at),
+            first,
+        });
+    }
+    if is_warp_map(builtin, j, e) {
+        let first = read_inside(alloc, names, here, locals, e, first)?;
+        return Ok(Read {
+            part: no_part(e.at),
+            first,
+        });
+    }
+    if sees_counter(builtin, j) {
+        let inner = with_counter(alloc, locals, counter, at)?;
+        Ok(read_expr(alloc, names, here, inner.as_slice(), e, first)?)
+    } else {
+        Ok(read_expr(alloc, names, here, locals, e, first)?)
+    }
+}
+
+#[cycle(read)]
+fn read_arguments<'t>(
+    alloc: Global,
+    names: &Names<'t>,
+    here: u32,
+    locals: &[(Word<'t>, NameId)],
+    builtin: Builtin,
+    parts: &'t [Expr],
+    first: Option<Fault>,
+) -> Result<ReadMany, AllocError>
+    ensures { IfOk result (λ r. record { parts = r.parts; first = r.first } ≡ arguments_read builtin (first_counter (map reading parts.now)) (first_place (map reading parts.now)) 0 (map reading parts.now) (scope_of names.now here locals.now) [] first) }
+{
+    let counter = first_counter(parts);
+    let at = first_place(parts);
+    let mut done = Items::new(alloc);
+    let mut first = first;
+    for j in 0..parts.len() {
+        let read = read_argument(
+            alloc, names, here, locals, builtin, &counter, at, j, &parts[j], first,
+        )?;
+        first = read.first;
+        done.push(read.part)?;
+    }
+    Ok(ReadMany { parts: done, first })
+}
+
+/// Notes a name of a list, and whether the list has it already.
+pub(crate) fn note_again<'t>(
+    seen: &mut IndexMap<Word<'t>, NameId>,
+    word: Word<'t>,
+    at: u32,
+    first: Option<Fault>,
+) -> Result<Option<Fault>, AllocError>
+    ensures seen { OnOk result (seen.new.entries ≡ seen_after seen.old.entries word.entry at) }
+    ensures first { IfOk result (λ f. f ≡ again_noted seen.old.entries word.entry at first) }
+{
+    let before = seen.insert(word, NameId(at))?;
+    Ok(noted_if(before.is_some(), CheckWhy::Redefined, at, first))
+}
+
+#[cycle(read)]
+fn read_each_bind<'t>(
+    alloc: Global,
+    names: &Names<'t>,
+    here: u32,
+    locals: &[(Word<'t>, NameId)],
+    binds: &'t [Bind],
+    first: Option<Fault>,
+) -> Result<ReadBlock<'t>, AllocError>
+    ensures { IfOk result (λ r. record { binds = r.binds; scope = scope_of names.now here r.locals.items; first = r.first } ≡ read_binds (map reading_of_bind binds.now) [] (scope_of names.now here locals.now) [] first) }
+{
+    let mut locals = copied(alloc, locals)?;
+    let mut seen = IndexMap::new(alloc);
+    let mut done = Items::new(alloc);
+    let mut first = first;
+    for bind in binds {
+        first = note_again(&mut seen, Word::of(&bind.name), bind.at, first)?;
+        let read = read_expr(alloc, names, here, locals.as_slice(), &bind.value, first)?;
+        first = read.first;
+        locals.push((Word::of(&bind.name), NameId(bind.at)))?;
+        done.push(Bound {
+            name: NameId(bind.at),
+            value: read.part,
+        })?;
+    }
+    Ok(ReadBlock {
+        binds: done,
+        locals,
+        first,
+    })
+}
