@@ -7,6 +7,8 @@ mod blocks;
 #[cfg(test)]
 mod canonical;
 #[cfg(test)]
+mod engines;
+#[cfg(test)]
 mod numbers;
 #[cfg(test)]
 mod tokens;

@@ -1,0 +1,386 @@
+-- One pull of a sound: when it has ended, what is filled, what is read.
+use Rattle.std.proofs.Common.{◌≡◌, ◌⊎◌, inl, inr, ℕ, ◌+◌, ◌-◌, ◌*◌, ◌/◌, ◌<◌, ◌≤◌, ◌==◌, min, Bool, true, false, cond, IsTrue, IsSomeAnd, if◌then◌else◌, List, length, take, drop, slice_index, slice_set, Option, None, Some, refl, sym, ap, subst, ◌∙◌, arith, ℤ, length-take, length-drop}
+use Rattle.std.proofs.lemmas.Bool.{cases_eq, eqb-true, ltb-true, lt-ltb}
+use Rattle.std.proofs.lemmas.List.{take_min, length-set}
+use Rattle.std.proofs.lemmas.Nat.{mul-le}
+use Rattle.std.proofs.Math.Nat.{le-div_iff_mul-le, mul-div_cancel}
+use Rattle.std.specs.Option.{option_map_or}
+use Rattle.ny_heap.specs.Heap.{Node, HeapState, node_at, list_of, place_of, is_open, open_unit, blocks_of, stands_in, computed_of}
+use Rattle.ny_heap.specs.Means.{KeepsMeaning, sound_in}
+use Rattle.ny_heap.specs.Reach.{HeapLaws, IsReachable, IsTrimmed}
+use Rattle.ny_heap.specs.Steps.{IsCounted, IsHeldAt, IsHeldSound, Passes, advanced, run_of, computed_in}
+use Rattle.ny_heap.specs.declared.sound.Sound.{Sound}
+use Rattle.ny_num.specs.Sound.{IsTiming}
+use Rattle.ny_num.specs.Grid.{last_index}
+use Rattle.ny_num.specs.declared.rate.Rate.{Rate}
+use Rattle.ny_num.specs.declared.rate.Rate.TheVariants.{R2205, R4410, R8000, R11025, R16000, R22050, R32000, R44100, R48000}
+use Rattle.ny_pull.specs.Below.{ComesFrom, IsSettled, IsRank, IsRanked, Continues, Below, Drives}
+use Rattle.ny_pull.specs.Playing.{IsPulled, IsPlaying}
+use Rattle.ny_pull.proofs.BelowLemmas.{some_same, same_at, and_some, held_above}
+use Rattle.ny_pull.proofs.WantLemmas.{short_is_open}
+use Rattle.ny_pull.proofs.FillLemmas.{reached_stays}
+use Rattle.ny_pull.proofs.MarkLemmas.{Alike, advanced_by, advanced_node, advanced_same, advanced_from, advanced_other, uses_alike, mark_counts, mark_set}
+
+-- ---- has it ended
+
+open_is_short : (block filled len : ℕ) → 0 < block → filled < blocks_of block len → filled * block < len
+open_is_short block filled len some below =
+    let fits = (le-div_iff_mul-le {k = block} {x = filled + 1} {y = len + (block - 1)} some).0 (omega arith) in
+    omega (arith, fits, one_more filled block)
+  where
+    one_more : (n b : ℕ) → (n + 1) * b ≡ n * b + b
+    one_more n b = omega arith
+
+cases_lt : (a b : ℕ) → (a < b) ⊎ (b ≤ a)
+cases_lt a b = grind arith
+
+closed_is_long : (block filled len : ℕ) → 0 < block → blocks_of block len ≤ filled → len ≤ filled * block
+closed_is_long block filled len some above = elim (cases_lt (filled * block) len) [
+  | inl short ↦ absurd (omega (arith, short_is_open block filled len some short))
+  | inr long ↦ long
+]
+
+-- the sound's unit, where it has one
+pub counted : {B : Type 0} (h : HeapState B) (s : Sound) (n : ℕ) → IsHeldSound h s → list_of s ≡ Some n → IsCounted h s n
+counted h s n held e = subst (λ o. IsHeldAt h s o) e held.1
+
+pub ended_of : {B : Type 0} (h : HeapState B) (s : Sound) (xs : List ℤ) (pulls left : ℕ) → IsPlaying h s xs pulls pulls left → open_unit h (list_of s) ≡ None → length xs ≤ pulls * h.block
+ended_of {B} h s xs pulls left playing e = by_list (list_of s) refl
+  where
+    by_open : (n : ℕ) (p : IsPulled h s pulls left n) (b : Bool) → is_open h.block p.unit ≡ b → cond b (Some n) None ≡ None → length xs ≤ pulls * h.block
+    by_open n p true is none = cc
+    by_open n p false is none = elim (cases_le (blocks_of h.block p.unit.timing.len) p.unit.filled) [
+      | inl long ↦
+          let full = closed_is_long h.block p.unit.filled p.unit.timing.len playing.laws.positive long in
+          let times : p.unit.filled * h.block ≡ pulls * h.block = ap (λ f. f * h.block) p.done in
+          omega (arith, full, times, p.shown, playing.len)
+      | inr short ↦ absurd (true_is_not_false (sym (lt-ltb _ _ short) ∙ is))
+    ]
+      where
+        cases_le : (a b : ℕ) → (a ≤ b) ⊎ (b < a)
+        cases_le a b = grind arith
+
+        true_is_not_false : true ≡ false → ⊥
+        true_is_not_false q = cc
+
+    by_list : (o : Option ℕ) → list_of s ≡ o → length xs ≤ pulls * h.block
+    by_list None is =
+        let zero_len : s.timing.len ≡ 0 = subst (λ o. IsHeldAt h s o) is playing.held.1 in
+        omega (arith, zero_len, playing.len)
+    by_list (Some n) is =
+        let p = playing.pulled n is in
+        by_open n p (is_open h.block p.unit) refl (sym (ap (λ o. option_map_or (λ x. if is_open h.block x then Some n else None) o None) p.there) ∙ (sym (ap (open_unit h) is) ∙ e))
+
+pub record Opens {B : Type 0} (h : HeapState B) (s : Sound) (xs : List ℤ) (pulls u : ℕ) : Type 0 where
+  pub list : list_of s ≡ Some u
+  pub short : pulls * h.block < length xs
+  pub unit : IsSomeAnd (node_at h u) (λ x. IsTrue (is_open h.block x))
+
+pub open_of : {B : Type 0} (h : HeapState B) (s : Sound) (xs : List ℤ) (pulls left u : ℕ) → IsPlaying h s xs pulls pulls left → open_unit h (list_of s) ≡ Some u → Opens h s xs pulls u
+open_of {B} h s xs pulls left u playing e = by_list (list_of s) refl
+  where
+    by_open : (n : ℕ) (p : IsPulled h s pulls left n) → list_of s ≡ Some n → (b : Bool) → is_open h.block p.unit ≡ b → cond b (Some n) None ≡ Some u → Opens h s xs pulls u
+    by_open n p list false is found = cc
+    by_open n p list true is found =
+        let n_is : n ≡ u = some_same n u found in
+        let short = open_is_short h.block p.unit.filled p.unit.timing.len playing.laws.positive (ltb-true _ _ is) in
+        let times : p.unit.filled * h.block ≡ pulls * h.block = ap (λ f. f * h.block) p.done in
+        record {
+          list = list ∙ ap Some n_is;
+          short = omega (arith, short, times, p.shown, playing.len);
+          unit = and_some (node_at h u) (λ x. IsTrue (is_open h.block x)) p.unit (subst (λ m. node_at h m ≡ Some p.unit) n_is p.there) is;
+        }
+
+    by_list : (o : Option ℕ) → list_of s ≡ o → Opens h s xs pulls u
+    by_list None is = absurd (none_is_not_some (sym (ap (open_unit h) is) ∙ e))
+      where
+        none_is_not_some : None ≡ Some u → ⊥
+        none_is_not_some q = cc
+    by_list (Some n) is =
+        let p = playing.pulled n is in
+        by_open n p is (is_open h.block p.unit) refl (sym (ap (λ o. option_map_or (λ x. if is_open h.block x then Some n else None) o None) p.there) ∙ (sym (ap (open_unit h) is) ∙ e))
+
+-- ---- while it is filled
+
+-- the sound's unit goes on
+plays_on : {B : Type 0} (old new : HeapState B) (s : Sound) (xs : List ℤ) (pulls filled later left u : ℕ) (y : Node B) → IsPlaying old s xs pulls filled left → list_of s ≡ Some u → HeapLaws new → IsSettled new → new.block ≡ old.block → node_at new u ≡ Some y → ((x : Node B) → node_at old u ≡ Some x → Continues x y) → y.filled ≡ later → IsRanked new u left → ComesFrom old new → KeepsMeaning old new → IsPlaying new s xs pulls later left
+plays_on {B} old new s xs pulls filled later left u y playing list laws settled block there on done ranked comes keeps = record {
+  laws = laws;
+  settled = settled;
+  held = (playing.held.0, subst (λ o. IsHeldAt new s o) (sym list) held_now);
+  len = playing.len;
+  place = subst (λ b. place_of s ≡ min (pulls * b) (length xs)) (sym block) playing.place;
+  pulled = λ n is. subst (λ m. IsPulled new s later left m) (some_same u n (sym list ∙ is)) (record { unit = y; there = there; shown = ap (λ t. t.len) (on p.unit p.there).timing ∙ p.shown; done = done; ranked = ranked });
+  alone = λ v z at some. let x = comes v z at in playing.alone v x.0 x.1 (omega (arith, some, x.2));
+  heard = λ part.
+      let was = playing.heard part in
+      record { whole = was.whole; means = keeps part was.whole was.means; samples = was.samples };
+}
+  where
+    p : IsPulled old s filled left u
+    p = playing.pulled u list
+
+    c : IsCounted old s u
+    c = counted old s u playing.held list
+
+    held_now : IsCounted new s u
+    held_now =
+        let go = on c.unit c.there in
+        let times = mul-le c.unit.filled old.block y.filled new.block go.filled (omega (arith, block)) in
+        record {
+          unit = y;
+          there = there;
+          some = c.some;
+          visible = omega (arith, c.visible, ap (λ t. t.len) go.timing);
+          place = omega (arith, c.place, times, ap (λ t. t.len) go.timing);
+          stands = omega (arith, c.stands, go.marks (stands_in new.block y.timing.len (place_of s)), ap (λ b. slice_index c.unit.outside (stands_in b y.timing.len (place_of s))) block, ap (λ t. slice_index c.unit.outside (stands_in old.block t.len (place_of s))) go.timing);
+        }
+
+-- it has one block more
+pub driven : {B : Type 0} (old new : HeapState B) (s : Sound) (xs : List ℤ) (pulls left u : ℕ) → IsPlaying old s xs pulls pulls left → list_of s ≡ Some u → HeapLaws new → IsSettled new → ((rank : ℕ → ℕ) → IsRank old rank → Drives old new u rank) → ComesFrom old new → KeepsMeaning old new → IsPlaying new s xs pulls (pulls + 1) left
+driven {B} old new s xs pulls left u playing list laws settled drives comes keeps =
+    let p = playing.pulled u list in
+    let d = drives p.ranked.rank p.ranked.falls in
+    let y = d.below.held u p.unit p.there (held_above old playing.laws p.ranked.rank p.ranked.falls u p.unit p.there) in
+    plays_on old new s xs pulls pulls (pulls + 1) left u y.0 playing list laws settled d.below.block y.1
+    (λ x there. subst (λ z. Continues z y.0) (same_at (node_at old u) p.unit x p.there there) y.3)
+    (d.more p.unit y.0 p.there y.1 ∙ ap (λ f. f + 1) p.done)
+    (record { rank = d.below.later; falls = d.below.falls; within = omega (arith, p.ranked.within, y.2) })
+    comes
+    keeps
+
+pub driven_size : {B : Type 0} (old new : HeapState B) (s : Sound) (xs : List ℤ) (pulls left u : ℕ) → IsPlaying old s xs pulls pulls left → list_of s ≡ Some u → ((rank : ℕ → ℕ) → IsRank old rank → Drives old new u rank) → (new.pool ≡ old.pool) × (new.block ≡ old.block)
+driven_size old new s xs pulls left u playing list drives =
+    let p = playing.pulled u list in
+    let d = drives p.ranked.rank p.ranked.falls in
+    (d.below.pool, d.below.block)
+
+-- no block was free
+pub stopped : {B : Type 0} (old new : HeapState B) (s : Sound) (xs : List ℤ) (pulls left u : ℕ) → IsPlaying old s xs pulls pulls left → list_of s ≡ Some u → HeapLaws new → IsSettled new → ((rank : ℕ → ℕ) → IsRank old rank → Below old new rank (rank u)) → ComesFrom old new → KeepsMeaning old new → IsPlaying new s xs pulls pulls left
+stopped {B} old new s xs pulls left u playing list laws settled below comes keeps =
+    let p = playing.pulled u list in
+    let d = below p.ranked.rank p.ranked.falls in
+    let y = d.same u p.unit p.there (omega arith) in
+    plays_on old new s xs pulls pulls pulls left u p.unit playing list laws settled d.block y.0
+    (λ x there. subst (λ z. Continues z p.unit) (same_at (node_at old u) p.unit x p.there there) (record { timing = refl; filled = omega arith; outside = refl; marks = λ j. refl }))
+    p.done
+    (record { rank = d.later; falls = d.falls; within = omega (arith, p.ranked.within, y.1) })
+    comes
+    keeps
+
+pub stopped_size : {B : Type 0} (old new : HeapState B) (s : Sound) (xs : List ℤ) (pulls left u : ℕ) → IsPlaying old s xs pulls pulls left → list_of s ≡ Some u → ((rank : ℕ → ℕ) → IsRank old rank → Below old new rank (rank u)) → (new.pool ≡ old.pool) × (new.block ≡ old.block)
+stopped_size old new s xs pulls left u playing list below =
+    let p = playing.pulled u list in
+    let d = below p.ranked.rank p.ranked.falls in
+    (d.pool, d.block)
+
+-- ---- what is read
+
+-- how many samples a pull gives
+pub run_is : (p b len : ℕ) → 0 < b → p * b < len → run_of b (min ((p + 1) * b) len) len (min (p * b) len) b ≡ min b (len - p * b)
+run_is p b len some short =
+    let low : min (p * b) len ≡ p * b = omega arith in
+    let at : p * b / b ≡ p = mul-div_cancel p {n = b} some in
+    ap (λ m. min b (min ((m / b + 1) * b) (min (min ((p + 1) * b) len) len) - m)) low
+    ∙ (ap (λ q. min b (min ((q + 1) * b) (min (min ((p + 1) * b) len) len) - p * b)) at ∙ count)
+  where
+    one_more : (n b : ℕ) → (n + 1) * b ≡ n * b + b
+    one_more n b = omega arith
+
+    count : min b (min ((p + 1) * b) (min (min ((p + 1) * b) len) len) - p * b) ≡ min b (len - p * b)
+    count = omega (arith, one_more p b)
+
+-- where the sound stands then
+place_after : (p b len : ℕ) → p * b < len → min (p * b) len + min b (len - p * b) ≡ min ((p + 1) * b) len
+place_after p b len short = omega (arith, one_more p b)
+  where
+    one_more : (n b : ℕ) → (n + 1) * b ≡ n * b + b
+    one_more n b = omega arith
+
+-- it stands within the marks
+stands_within : (p b len : ℕ) → 0 < b → stands_in b len (min ((p + 1) * b) len) ≤ p + 1
+stands_within p b len some = by_end (min ((p + 1) * b) len == len) refl
+  where
+    two_more : (n b : ℕ) → (n + 2) * b ≡ (n + 1) * b + b
+    two_more n b = omega arith
+
+    by_end : (e : Bool) → (min ((p + 1) * b) len == len) ≡ e → cond e (blocks_of b len) (min ((p + 1) * b) len / b) ≤ p + 1
+    by_end true is = elim (cases_lt (p + 1) (blocks_of b len)) [
+      | inl more ↦ absurd (omega (arith, open_is_short b (p + 1) len some more, eqb-true _ _ is))
+      | inr few ↦ few
+    ]
+    by_end false is = elim (cases_lt (p + 1) (min ((p + 1) * b) len / b)) [
+      | inl more ↦
+          let fits = (le-div_iff_mul-le {k = b} {x = p + 2} {y = min ((p + 1) * b) len} some).0 (omega arith) in
+          absurd (omega (arith, fits, two_more p b, some))
+      | inr few ↦ few
+    ]
+
+-- the sound's unit as it is read
+pub record Played {B : Type 0} (old new : HeapState B) (s to : Sound) (xs : List ℤ) (pulls left n : ℕ) : Type 0 where
+  pub playing : IsPlaying new to xs (pulls + 1) (pulls + 1) left
+  pub count : n ≡ length (take old.block (drop (pulls * old.block) xs))
+  pub some : 0 < n
+  pub samples : take n (drop (place_of s) xs) ≡ take old.block (drop (pulls * old.block) xs)
+  pub pool : new.pool ≡ old.pool
+  pub block : new.block ≡ old.block
+
+module _ {B : Type 0} (old new : HeapState B) (s to : Sound) (xs : List ℤ) (pulls left u n : ℕ) (playing : IsPlaying old s xs pulls (pulls + 1) left) (list : list_of s ≡ Some u) (short : pulls * old.block < length xs) (passes : Passes s to n) (run : n ≡ run_of old.block (computed_in old (list_of s)) s.timing.len (place_of s) old.block) (laws : HeapLaws new) (trimmed : IsTrimmed (advanced old s to) new) (keeps : KeepsMeaning old new) where
+  p : IsPulled old s (pulls + 1) left u
+  p = playing.pulled u list
+
+  computed : computed_in old (list_of s) ≡ min ((pulls + 1) * old.block) (length xs)
+  computed =
+      ap (λ o. option_map_or (λ v. option_map_or (computed_of old.block) (node_at old v) 0) o 0) list
+      ∙ (ap (λ o. option_map_or (computed_of old.block) o 0) p.there
+      ∙ (λ i. min (p.done i * old.block) ((p.shown ∙ playing.len) i)))
+
+  count_is : n ≡ min old.block (length xs - pulls * old.block)
+  count_is =
+      run ∙ ((λ i. run_of old.block (computed i) (playing.len i) (playing.place i) old.block)
+      ∙ run_is pulls old.block (length xs) playing.laws.positive short)
+
+  some_of : 0 < n
+  some_of = omega (arith, count_is, short, playing.laws.positive)
+
+  place_now : place_of to ≡ min ((pulls + 1) * old.block) (length xs)
+  place_now = passes.place ∙ ((λ i. playing.place i + count_is i) ∙ place_after pulls old.block (length xs) short)
+
+  list_now : list_of to ≡ Some u
+  list_now = passes.list ∙ list
+
+  -- the heap before what nobody reads is removed
+  between : HeapState B
+  between = advanced_by old (Some u) (Some u) (place_of s) (place_of to)
+
+  marked : Node B
+  marked = advanced_node old.block (place_of s) (place_of to) p.unit
+
+  trimmed_now : IsTrimmed (advanced_by old (Some u) (Some u) (place_of s) (place_of to)) new
+  trimmed_now = let step : advanced old s to ≡ advanced_by old (Some u) (Some u) (place_of s) (place_of to) = λ i. advanced_by old (list i) (list_now i) (place_of s) (place_of to) in subst (λ h. IsTrimmed h new) step trimmed
+
+  size : (new.pool ≡ old.pool) × (new.block ≡ old.block)
+  size = (trimmed_now.size.pool, trimmed_now.size.block)
+
+  from_old : (v : ℕ) (y : Node B) → node_at new v ≡ Some y → (x : Node B) × (node_at old v ≡ Some x) × Alike x y
+  from_old v y at = advanced_from old u (place_of s) (place_of to) p.unit p.there v y (trimmed_now.kept v y at)
+
+  marked_within : stands_in old.block p.unit.timing.len (place_of to) < length p.unit.outside
+  marked_within =
+      let shown : p.unit.timing.len ≡ length xs = p.shown ∙ playing.len in
+      let low : stands_in old.block p.unit.timing.len (place_of to) ≤ pulls + 1 = subst (λ m. stands_in old.block p.unit.timing.len m ≤ pulls + 1) (sym place_now) (subst (λ len. stands_in old.block len (min ((pulls + 1) * old.block) (length xs)) ≤ pulls + 1) (sym shown) (stands_within pulls old.block (length xs) playing.laws.positive)) in
+      let marks = (playing.laws.nodes u p.unit p.there).marks in
+      omega (arith, low, marks, p.done)
+
+  -- its reader is counted where it stands
+  marks_it : 0 < slice_index (advanced_node old.block (place_of s) (place_of to) p.unit).outside (stands_in old.block p.unit.timing.len (place_of to))
+  marks_it =
+      let j = stands_in old.block p.unit.timing.len (place_of to) in
+      let k = stands_in old.block p.unit.timing.len (place_of s) in
+      let less : List ℕ = slice_set p.unit.outside k (slice_index p.unit.outside k - 1) in
+      let within : j < length less = omega (arith, length-set p.unit.outside k (slice_index p.unit.outside k - 1), marked_within) in
+      omega (arith, mark_set less j (slice_index less j + 1) within)
+
+  there_between : node_at (advanced_by old (Some u) (Some u) (place_of s) (place_of to)) u ≡ Some (advanced_node old.block (place_of s) (place_of to) p.unit)
+  there_between = advanced_same old u (place_of s) (place_of to) p.unit p.there
+
+  reached : IsReachable (advanced_by old (Some u) (Some u) (place_of s) (place_of to)) u
+  reached = (u, record { unit = advanced_node old.block (place_of s) (place_of to) p.unit; there = there_between; some = omega (arith, marks_it, mark_counts (advanced_node old.block (place_of s) (place_of to) p.unit).outside (stands_in old.block p.unit.timing.len (place_of to))) }, (0, refl))
+
+  there_now : node_at new u ≡ Some (advanced_node old.block (place_of s) (place_of to) p.unit)
+  there_now = reached_stays (advanced_by old (Some u) (Some u) (place_of s) (place_of to)) new trimmed_now u (advanced_node old.block (place_of s) (place_of to) p.unit) there_between reached
+
+  counted_now : IsCounted new to u
+  counted_now =
+      let computed_now : computed_of new.block (advanced_node old.block (place_of s) (place_of to) p.unit) ≡ min ((pulls + 1) * old.block) (length xs) = λ i. min (p.done i * size.1 i) ((p.shown ∙ playing.len) i) in
+      record {
+        unit = advanced_node old.block (place_of s) (place_of to) p.unit;
+        there = there_now;
+        some = omega (arith, short, playing.len, ap (λ t. t.len) passes.timing);
+        visible = omega (arith, p.shown, ap (λ t. t.len) passes.timing);
+        place = omega (arith, place_now, computed_now, playing.len, ap (λ t. t.len) passes.timing);
+        stands = subst (λ b. 0 < slice_index (advanced_node old.block (place_of s) (place_of to) p.unit).outside (stands_in b p.unit.timing.len (place_of to))) (sym size.1) marks_it;
+      }
+
+  settled_now : IsSettled new
+  settled_now v y at =
+      let x = from_old v y at in
+      let was = playing.settled v x.0 x.1 in
+      (x.2.pending ∙ was.0, x.2.waiting ∙ was.1)
+
+  samples_now : take n (drop (place_of s) xs) ≡ take old.block (drop (pulls * old.block) xs)
+  samples_now =
+      let low : place_of s ≡ pulls * old.block = playing.place ∙ (omega arith) in
+      let rest : length (drop (pulls * old.block) xs) ≡ length xs - pulls * old.block = length-drop (pulls * old.block) xs in
+      (λ i. take ((count_is ∙ ap (λ m. min old.block m) (sym rest)) i) (drop (low i) xs)) ∙ take_min old.block (drop (pulls * old.block) xs)
+
+  pub played : Played old new s to xs pulls left n
+  played = record {
+    playing = record {
+      laws = laws;
+      settled = settled_now;
+      held = (subst IsTiming (sym passes.timing) playing.held.0, subst (λ o. IsHeldAt new to o) (sym list_now) counted_now);
+      len = ap (λ t. t.len) passes.timing ∙ playing.len;
+      place = subst (λ b. place_of to ≡ min ((pulls + 1) * b) (length xs)) (sym size.1) place_now;
+      pulled = λ m is. subst (λ v. IsPulled new to (pulls + 1) left v) (some_same u m (sym list_now ∙ is)) (record {
+        unit = advanced_node old.block (place_of s) (place_of to) p.unit;
+        there = there_now;
+        shown = p.shown ∙ sym (ap (λ t. t.len) passes.timing);
+        done = p.done;
+        ranked = record { rank = p.ranked.rank; falls = λ a b uses. p.ranked.falls a b (uses_alike old new from_old a b uses); within = p.ranked.within };
+      });
+      alone = λ v y at some. elim (cases_eq v u) [
+        | inl same ↦ list_now ∙ ap Some (sym same)
+        | inr other ↦ passes.list ∙ playing.alone v y (sym (advanced_other old u (place_of s) (place_of to) v other) ∙ trimmed_now.kept v y at) some
+      ];
+      heard = λ part.
+          let was = playing.heard part in
+          record { whole = was.whole; means = keeps part was.whole was.means; samples = (λ i. (sound_in was.whole.samples (passes.list i) (passes.timing i)).samples) ∙ was.samples };
+    };
+    count = count_is ∙ sym (length-take old.block (drop (pulls * old.block) xs) ∙ ap (λ m. min old.block m) (length-drop (pulls * old.block) xs));
+    some = some_of;
+    samples = samples_now;
+    pool = size.0;
+    block = size.1;
+  }
+
+-- the whole of a pull that gives samples: what is filled, and what is read then
+pub pulled_block : {B : Type 0} (old mid new : HeapState B) (s to : Sound) (xs : List ℤ) (pulls left u n most : ℕ) → IsPlaying old s xs pulls pulls left → open_unit old (list_of s) ≡ Some u → HeapLaws mid → IsSettled mid → ((rank : ℕ → ℕ) → IsRank old rank → Drives old mid u rank) → ComesFrom old mid → KeepsMeaning old mid → Passes s to n → most ≡ old.block → n ≡ run_of mid.block (computed_in mid (list_of s)) s.timing.len (place_of s) most → HeapLaws new → IsTrimmed (advanced mid s to) new → KeepsMeaning mid new → Played old new s to xs pulls left n
+pulled_block old mid new s to xs pulls left u n most playing e laws settled drives comes keeps passes room run laws_new trimmed keeps_new =
+    let opens = open_of old s xs pulls left u playing e in
+    let size = driven_size old mid s xs pulls left u playing opens.list drives in
+    let filled = driven old mid s xs pulls left u playing opens.list laws settled drives comes keeps in
+    let short_mid : pulls * mid.block < length xs = subst (λ b. pulls * b < length xs) (sym size.1) opens.short in
+    let run_mid : n ≡ run_of mid.block (computed_in mid (list_of s)) s.timing.len (place_of s) mid.block = run ∙ ap (λ m. run_of mid.block (computed_in mid (list_of s)) s.timing.len (place_of s) m) (room ∙ sym size.1) in
+    let so = played mid new s to xs pulls left u n filled opens.list short_mid passes run_mid laws_new trimmed keeps_new in
+    record {
+      playing = so.playing;
+      count = so.count ∙ ap (λ b. length (take b (drop (pulls * b) xs))) size.1;
+      some = so.some;
+      samples = so.samples ∙ ap (λ b. take b (drop (pulls * b) xs)) size.1;
+      pool = so.pool ∙ size.0;
+      block = so.block ∙ size.1;
+    }
+
+-- the sound as it is read
+pub held_then : {B : Type 0} (old mid : HeapState B) (s : Sound) (xs : List ℤ) (pulls left u : ℕ) → IsPlaying old s xs pulls pulls left → open_unit old (list_of s) ≡ Some u → HeapLaws mid → IsSettled mid → ((rank : ℕ → ℕ) → IsRank old rank → Drives old mid u rank) → ComesFrom old mid → KeepsMeaning old mid → IsPlaying mid s xs pulls (pulls + 1) left
+held_then old mid s xs pulls left u playing e laws settled drives comes keeps =
+    driven old mid s xs pulls left u playing (open_of old s xs pulls left u playing e).list laws settled drives comes keeps
+
+hour_of : (r : Rate) → last_index r ≤ 172800000
+hour_of R2205 = omega arith
+hour_of R4410 = omega arith
+hour_of R8000 = omega arith
+hour_of R11025 = omega arith
+hour_of R16000 = omega arith
+hour_of R22050 = omega arith
+hour_of R32000 = omega arith
+hour_of R44100 = omega arith
+hour_of R48000 = omega arith
+
+-- there are no more pulls than samples
+pub few_pulls : {B : Type 0} (h : HeapState B) (s : Sound) (xs : List ℤ) (pulls left u : ℕ) → IsPlaying h s xs pulls pulls left → open_unit h (list_of s) ≡ Some u → pulls < 172800000
+few_pulls h s xs pulls left u playing e =
+    let short = (open_of h s xs pulls left u playing e).short in
+    let times = mul-le pulls 1 pulls h.block (omega arith) playing.laws.positive in
+    omega (arith, short, times, playing.len, playing.held.0.ends, hour_of s.timing.rate)

@@ -1,0 +1,85 @@
+-- What a contract sees of an engine: what it plays, how much of each channel was pulled, and its heap.
+use Rattle.std.specs.Prelude.{◌≡◌, ℕ, ◌+◌, ◌*◌, ◌<◌, ◌≤◌, List, Option, Some, slice_index, slice_get, slice_set, length, take, drop, sum, ℤ}
+use Rattle.ny_num.specs.declared.rate.Rate.{Rate}
+use Rattle.ny_heap.specs.Heap.{Node, HeapState, node_at, list_of, open_unit}
+use Rattle.ny_heap.specs.Reach.{IsTrimmed}
+use Rattle.ny_heap.specs.Steps.{Passes, advanced}
+use Rattle.ny_heap.specs.declared.sound.Sound.{Sound}
+use Rattle.ny_pull.specs.declared.term.Term.{Term}
+use Rattle.ny_pull.specs.declared.fault.PullFault.{PullFault}
+use Rattle.ny_pull.specs.declared.fault.PullFault.TheVariants.{PoolFull}
+use Rattle.ny_pull.specs.Channel.{channel_of}
+use Rattle.ny_pull.specs.Order.{FillsInOrder, StopsInOrder}
+
+-- `channels` has for each channel what is still to be pulled of it, `pulled` how many pulls of it gave samples. `spent`
+-- is the fault that ended the engine. No part of a sum waits, so the type of the heap's waiting parts says nothing
+pub record EngineState : Type 0 where
+  pub terms : List Term
+  pub rate : Rate
+  pub channels : List Sound
+  pub pulled : List ℕ
+  pub spent : Option PullFault
+  pub heap : HeapState (Unit {0})
+
+-- the samples of a channel, from its first on
+abbrev pub channel_at : EngineState → ℕ → List ℤ
+channel_at e c = channel_of e.terms
+
+-- how many samples the whole blocks have that were pulled of a channel
+abbrev pub passed_of : EngineState → ℕ → ℕ
+passed_of e c = slice_index e.pulled c * e.heap.block
+
+-- the next samples of a channel: a block of them, or what is left
+abbrev pub next_block : EngineState → ℕ → List ℤ
+next_block e c = take e.heap.block (drop (passed_of e c) (channel_at e c))
+
+-- all samples of a channel were given
+abbrev pub HasEnded : EngineState → ℕ → Type 0
+HasEnded e c = length (channel_at e c) ≤ passed_of e c
+
+-- no list is read from outside the heap but by what is still to be pulled of a channel
+abbrev pub IsReadByChannels : EngineState → Type 0
+IsReadByChannels e =
+    (v : ℕ) (x : Node (Unit {0})) → node_at e.heap v ≡ Some x → 0 < sum x.outside → (c : ℕ) × (s : Sound) × (slice_get e.channels c ≡ Some s) × (list_of s ≡ Some v)
+
+-- one pull more of channel c that gave samples
+abbrev pub with_pull : List ℕ → ℕ → List ℕ
+with_pull pulled c = slice_set pulled c (slice_index pulled c + 1)
+
+-- what no pull changes
+pub record SamePiece (old new : EngineState) : Type 0 where
+  pub terms : new.terms ≡ old.terms
+  pub rate : new.rate ≡ old.rate
+  pub channels : length new.channels ≡ length old.channels
+  pub pool : new.heap.pool ≡ old.heap.pool
+  pub block : new.heap.block ≡ old.heap.block
+
+-- a pull of channel c gives n samples. What its next block needs is filled, in order, and then read
+pub record GivesBlock (old new : EngineState) (c n : ℕ) : Type 0 where
+  pub before : Sound
+  pub was : slice_get old.channels c ≡ Some before
+  pub unit : ℕ
+  pub «open» : open_unit old.heap (list_of before) ≡ Some unit
+  pub deep : ℕ
+  pub order : List ℕ
+  pub filled : HeapState (Unit {0})
+  pub fills : FillsInOrder deep old.heap unit order filled
+  pub after : Sound
+  pub passes : Passes before after n
+  pub now : new.channels ≡ slice_set old.channels c after
+  pub read : IsTrimmed (advanced filled before after) new.heap
+
+-- a pull of channel c stops: what its next block needs is filled, in order, to the first fill that finds no free block
+pub record StopsAtFull (old new : EngineState) (c : ℕ) : Type 0 where
+  pub before : Sound
+  pub was : slice_get old.channels c ≡ Some before
+  pub unit : ℕ
+  pub «open» : open_unit old.heap (list_of before) ≡ Some unit
+  pub deep : ℕ
+  pub order : List ℕ
+  pub stops : StopsInOrder deep old.heap unit order new.heap
+  pub now : new.channels ≡ old.channels
+
+-- the fault of an engine whose pool is full
+abbrev pub full_of : EngineState → PullFault
+full_of e = PoolFull (sum e.pulled) e.heap.pool

@@ -1,0 +1,168 @@
+ghost use Rattle.std.specs.Prelude.{◌≡◌, ℕ, ◌<◌, ◌≤◌, ◌↔◌, ◌++◌, [], ◌∷◌, ◌⊎◌, nat_lt, if◌then◌else◌, IsTrue, None, Some, Ok, Err, IfSome, IfOk, IfErr, OnOk, OnErr, length, drop, sum};
+ghost use Rattle.ny_num.specs.Grid.{last_index};
+ghost use Rattle.ny_pull.specs.Channel.{longest};
+ghost use Rattle.ny_heap.specs.Heap.{live_of, free_of};
+ghost use Rattle.ny_heap.specs.Reach.{HeapLaws};
+ghost use Rattle.ny_pull.specs.Engine.{EngineState, channel_at, next_block, HasEnded, IsReadByChannels, with_pull, SamePiece, GivesBlock, StopsAtFull, full_of};
+
+use crate::drive::drive_within;
+use crate::fault::PullFault;
+use crate::sum::{make_channel, make_sum};
+use crate::term::Term;
+use ny_heap::{Heap, Sound};
+use ny_num::{Rate, Sample};
+use std::alloc::{AllocError, Global};
+use std::marker::Model;
+
+/// One channel that is computed as it is pulled, a block at a time.
+#[derive(Drop)]
+pub struct Engine {
+    terms: Vec<Term>,
+    rate: Rate,
+    heap: Heap<()>,
+    // What is still to be pulled.
+    channel: Sound,
+    pulls: u64,
+    // How many blocks the pool has.
+    pool: u32,
+    spent: Option<PullFault>,
+}
+
+impl Model for Engine {
+    ghost use Rattle.std.specs.Prelude.{[], ◌∷◌};
+    ghost use Rattle.ny_pull.specs.Engine.{EngineState};
+
+    ghost Value = { EngineState };
+
+    ghost use Rattle.ny_pull.specs.Inside.{IsEngineInside};
+
+    ghost view = { λ e. record { terms = e.terms.items; rate = e.rate; channels = e.channel ∷ []; pulled = e.pulls ∷ []; spent = e.spent; heap = e.heap } };
+
+    ghost invariant = { λ e. IsEngineInside e.terms.items e.heap e.channel e.pulls e.pool e.spent };
+}
+
+impl Engine {
+    /// An engine for the sum of these terms, over a pool of `pool` blocks of `block` samples each. It
+    /// plays one channel, from its first sample on, and has filled nothing.
+    ///
+    /// # Errors
+    /// `AllocError` where memory is missing.
+    pub fn open(
+        alloc: Global,
+        terms: Vec<Term>,
+        pool: u32,
+        block: u32,
+        rate: Rate,
+    ) -> Result<Engine, AllocError>
+        requires some_terms { 1 ≤ length terms.items }
+        requires few_terms { length terms.items ≤ 100 }
+        requires hour { longest terms.items ≤ last_index rate }
+        requires pool { (1 ≤ pool) × (pool ≤ 65536) }
+        requires block { (16 ≤ block) × (block ≤ 4096) }
+        ensures piece { IfOk result (λ e. (e.terms ≡ terms.items) × (e.rate ≡ rate) × (e.heap.pool ≡ pool) × (e.heap.block ≡ block)) }
+        ensures begins { IfOk result (λ e. (length e.channels ≡ 1) × (e.pulled ≡ 0 ∷ []) × (e.spent ≡ None)) }
+        ensures unfilled { IfOk result (λ e. (e.heap.fills ≡ 0) × (e.heap.peak ≡ 0)) }
+        ensures laws { IfOk result (λ e. HeapLaws e.heap) }
+    {
+        let mut heap = Heap::open(alloc, pool, block)?;
+        let sum = make_sum(&mut heap, alloc, terms.as_slice(), rate)?;
+        let channel = make_channel(&mut heap, alloc, sum)?;
+        Ok(Engine {
+            terms,
+            rate,
+            heap,
+            channel,
+            pulls: 0,
+            pool,
+            spent: None,
+        })
+    }
+
+    /// How many channels there are.
+    pub fn channels(&self) -> u32
+        ensures { result ≡ length self.now.channels }
+    {
+        let _ = &self.channel;
+        1
+    }
+
+    /// How many frames there are: one for each sample of the channel.
+    pub fn frames(&self) -> u32
+        ensures { result ≡ length (channel_at self.now 0) }
+    {
+        self.channel.timing.len
+    }
+
+    /// How many pulls gave samples.
+    pub fn pulls(&self) -> u64
+        ensures { result ≡ sum self.now.pulled }
+    {
+        self.pulls
+    }
+
+    /// Whether all samples of a channel were given.
+    pub fn ended(&self, c: u32) -> bool
+        requires { c < length self.now.channels }
+        ensures { IsTrue result ↔ HasEnded self.now c }
+    {
+        self.heap.unit_of(&self.channel).is_none()
+    }
+
+    /// The next samples of channel `c`, to the front of `out`: a block of them, or what is left.
+    /// Answers how many, 0 exactly where the channel has ended. `out` has the block's length.
+    ///
+    /// # Errors
+    /// `PoolFull` where a fill found no free block. The engine is spent then, and answers the same
+    /// at each later pull.
+    pub fn pull(&mut self, _alloc: Global, c: u32, out: &mut [Sample]) -> Result<usize, PullFault>
+        requires channel { c < length self.old.channels }
+        requires room { length out.old ≡ self.old.heap.block }
+        ensures again { IfSome self.old.spent (λ fault. (result ≡ Err fault) × (self.new ≡ self.old)) }
+        ensures unspent { OnOk result ((self.old.spent ≡ None) × (self.new.spent ≡ None)) }
+        ensures count { IfOk result (λ n. n ≡ length (next_block self.old c)) }
+        ensures samples { IfOk result (λ n. out.new ≡ next_block self.old c ++ drop n out.old) }
+        ensures pulled { IfOk result (λ n. self.new.pulled ≡ (if nat_lt 0 n then with_pull self.old.pulled c else self.old.pulled)) }
+        ensures ended { self.old.spent ≡ None → HasEnded self.old c → (result ≡ Ok 0) × (self.new ≡ self.old) }
+        ensures gives { IfOk result (λ n. HasEnded self.old c ⊎ GivesBlock self.old self.new c n) }
+        ensures nothing { OnErr result ((out.new ≡ out.old) × (self.new.pulled ≡ self.old.pulled)) }
+        ensures spent { IfErr result (λ fault. self.new.spent ≡ Some fault) }
+        ensures full { IfErr result (λ fault. (fault ≡ full_of self.old) × (free_of self.new.heap ≡ 0)) }
+        ensures stops { OnErr result (self.old.spent ≡ None → StopsAtFull self.old self.new c) }
+        ensures same { SamePiece self.old self.new }
+        ensures laws { HeapLaws self.new.heap }
+    {
+        if let Some(fault) = self.spent {
+            return Err(fault);
+        }
+        let Some(unit) = self.heap.unit_of(&self.channel) else {
+            return Ok(0);
+        };
+        if drive_within(&mut self.heap, unit, 2 * self.terms.len() as u32).is_err() {
+            let fault = PullFault::PoolFull {
+                pulls: self.pulls,
+                live: self.pool,
+            };
+            self.spent = Some(fault);
+            return Err(fault);
+        }
+        let count = self.heap.read(&mut self.channel, out);
+        self.pulls += 1;
+        Ok(count)
+    }
+
+    /// How many blocks of the pool are taken.
+    pub fn live(&self) -> u32
+        ensures live { result ≡ live_of self.now.heap }
+        ensures laws { HeapLaws self.now.heap }
+        ensures reached { IsReadByChannels self.now }
+    {
+        self.heap.live()
+    }
+
+    /// How many blocks were filled, or 2^64 - 1 where that is greater.
+    pub fn fills(&self) -> u64
+        ensures { result ≡ self.now.heap.fills }
+    {
+        self.heap.fills()
+    }
+}
