@@ -1,5 +1,5 @@
-use crate::hosts::{Kind, host, words};
-use ny_top::{Status, run};
+use crate::hosts::{Kind, host, status_of};
+use ny_top::Status;
 use std::alloc::{AllocError, Global};
 use std::test::Fail;
 
@@ -180,11 +180,7 @@ fn texts_and_what_is_printed(rt: HostRuntime) -> Result<(), Fail> {
     let alloc = rt.alloc();
     for (text, status, printed) in TEXTS {
         let mut host = host(alloc, Vec::from_slice(alloc, text)?, AMPLE, None)?;
-        assert_eq!(rt;
-            run(alloc, &words(alloc, COMMAND)?, &mut host),
-            status,
-            "{text:?}"
-        );
+        assert_eq!(rt; status_of(alloc, COMMAND, &mut host)?, status, "{text:?}");
         assert_eq!(rt; host.printed(), printed);
         assert_eq!(rt; host.created(), None);
     }
@@ -208,17 +204,11 @@ fn bracketed(alloc: Global, count: usize) -> Result<Vec<u8>, AllocError> {
 fn brackets_at_the_bound(rt: HostRuntime) -> Result<(), Fail> {
     let alloc = rt.alloc();
     let mut deepest = host(alloc, bracketed(alloc, 198)?, AMPLE, None)?;
-    assert_eq!(rt;
-        run(alloc, &words(alloc, COMMAND)?, &mut deepest),
-        Status::Ok
-    );
+    assert_eq!(rt; status_of(alloc, COMMAND, &mut deepest)?, Status::Ok);
     assert_eq!(rt; deepest.printed(), b"play const ( 1 , 0.001 )\n".as_slice());
 
     let mut deeper = host(alloc, bracketed(alloc, 199)?, AMPLE, None)?;
-    assert_eq!(rt;
-        run(alloc, &words(alloc, COMMAND)?, &mut deeper),
-        Status::Refused
-    );
+    assert_eq!(rt; status_of(alloc, COMMAND, &mut deeper)?, Status::Refused);
     assert_eq!(rt; deeper.printed(), b"refused: parse 209\n".as_slice());
     Ok(())
 }
@@ -232,10 +222,7 @@ fn a_text_that_is_not_printed(rt: HostRuntime) -> Result<(), Fail> {
         3,
         Some((Kind::Print, 2)),
     )?;
-    assert_eq!(rt;
-        run(alloc, &words(alloc, COMMAND)?, &mut host),
-        Status::WriteFault
-    );
+    assert_eq!(rt; status_of(alloc, COMMAND, &mut host)?, Status::WriteFault);
     assert_eq!(rt; host.printed(), b"plafault: write\n".as_slice());
     Ok(())
 }
@@ -276,12 +263,109 @@ fn depth_and_weight_at_the_bounds(rt: HostRuntime) -> Result<(), Fail> {
         let at = text.len();
         text.extend_from_slice(format!(in alloc; "play f{count}()\n")?.as_bytes())?;
         let mut host = host(alloc, text, AMPLE, None)?;
-        let status = run(alloc, &words(alloc, COMMAND)?, &mut host);
+        let status = status_of(alloc, COMMAND, &mut host)?;
         if why.is_empty() {
             assert_eq!(rt; status, Status::Ok);
         } else {
             assert_eq!(rt; status, Status::Refused);
             let line = format!(in alloc; "refused: check {at} {why}\n")?;
+            assert_eq!(rt; host.printed(), line.as_bytes());
+        }
+    }
+    Ok(())
+}
+
+/// A block of so many names, each in the next one's value, whose value is made of the last.
+fn chained(alloc: Global, count: usize) -> Result<Vec<u8>, AllocError> {
+    let mut text = Vec::from_slice(alloc, b"play begin with n0 = 1")?;
+    for last in 0..count {
+        let k = last + 1;
+        let bind = format!(in alloc; ", n{k} = n{last}")?;
+        text.extend_from_slice(bind.as_bytes())?;
+    }
+    let value = format!(in alloc; " return const(n{count}, 1) end")?;
+    text.extend_from_slice(value.as_bytes())?;
+    Ok(text)
+}
+
+/// What a command prints of a text that it refuses.
+fn refusal(alloc: Global, command: &str, text: Vec<u8>) -> Result<Vec<u8>, Fail> {
+    let mut host = host(alloc, text, AMPLE, None)?;
+    let Status::Refused = status_of(alloc, command, &mut host)? else {
+        return Err("the text is not refused".into());
+    };
+    Ok(Vec::from_slice(alloc, host.printed())?)
+}
+
+// Names that were looked up one by one would take minutes here.
+#[test]
+fn block_of_many_names(rt: HostRuntime) -> Result<(), Fail> {
+    let alloc = rt.alloc();
+    let mut text = chained(alloc, 20_000)?;
+    let at = text.len() + 3;
+    let accepted = refusal(alloc, "render a.sal a.wav", Vec::from_slice(alloc, &text)?)?;
+    assert_eq!(rt; accepted.as_slice(), b"refused: form\n".as_slice());
+
+    text.extend_from_slice(b" + n20000")?;
+    let unknown = refusal(alloc, COMMAND, text)?;
+    let line = format!(in alloc; "refused: check {at} UnknownName\n")?;
+    assert_eq!(rt; unknown.as_slice(), line.as_bytes());
+    Ok(())
+}
+
+/// The bind of number `k`, which calls function `k`: on 1, or on the bind before it.
+fn bind(alloc: Global, k: usize, on_last: bool) -> Result<String, AllocError> {
+    if on_last && k > 0 {
+        let last = k - 1;
+        format!(in alloc; "x{k} = f{k}(x{last})")
+    } else {
+        format!(in alloc; "x{k} = f{k}(1)")
+    }
+}
+
+/// Functions of one number, the last of which returns this, and then a block each of whose binds calls one of them.
+fn block_of_calls(
+    alloc: Global,
+    count: usize,
+    on_last: bool,
+    returned: &str,
+) -> Result<Vec<u8>, AllocError> {
+    let mut text = Vec::new(alloc);
+    for k in 0..count {
+        let body = if k + 1 < count { "x + 1" } else { returned };
+        let line = format!(in alloc; "define function f{k}(x) return {body}\n")?;
+        text.extend_from_slice(line.as_bytes())?;
+    }
+    text.extend_from_slice(b"play begin with ")?;
+    for k in 0..count {
+        let separator = if k == 0 { "" } else { ", " };
+        let bind = bind(alloc, k, on_last)?;
+        text.extend_from_slice(format!(in alloc; "{separator}{bind}")?.as_bytes())?;
+    }
+    text.extend_from_slice(b" return const(x0, 1) end\n")?;
+    Ok(text)
+}
+
+/// Whether each bind calls its function on the bind before it, what the last function returns, and what is printed of a
+/// text with 300 of them.
+const BLOCKS: [(bool, &str, &str); 4] = [
+    (false, "x + 1", ""),
+    (true, "x + 1", "refused: check 10990 TooDeep\n"),
+    (false, "s-abs(x)", "refused: check 10984 Kind\n"),
+    (true, "s-abs(x)", "refused: check 10984 Kind\n"),
+];
+
+#[test]
+fn blocks_of_calls(rt: HostRuntime) -> Result<(), Fail> {
+    let alloc = rt.alloc();
+    for (on_last, returned, line) in BLOCKS {
+        let text = block_of_calls(alloc, 300, on_last, returned)?;
+        let mut host = host(alloc, text, AMPLE, None)?;
+        let status = status_of(alloc, COMMAND, &mut host)?;
+        if line.is_empty() {
+            assert_eq!(rt; status, Status::Ok);
+        } else {
+            assert_eq!(rt; status, Status::Refused);
             assert_eq!(rt; host.printed(), line.as_bytes());
         }
     }

@@ -1,6 +1,7 @@
 ghost use Rattle.std.specs.Prelude.{◌≤◌};
 
-use ny_io::{Fails, MemHost};
+use ny_io::{Fails, Host, MemHost};
+use ny_top::{Status, run};
 use std::alloc::{AllocError, Global};
 
 /// A kind of call that is to fail.
@@ -36,7 +37,7 @@ pub fn host(alloc: Global, text: Vec<u8>, step: usize, fault: Fault) -> Result<M
         prints: numbers(alloc, fault, Kind::Print)?,
     };
     let name = String::from_str(alloc, "a.sal")?;
-    MemHost::of(alloc, vec![in alloc; (name, text)]?, step, fails, 16384)
+    MemHost::of(alloc, vec![in alloc; (name, text)]?, step, fails, 32768)
 }
 
 /// The words of a command, from a text with a space between two.
@@ -46,4 +47,14 @@ pub fn words(alloc: Global, command: &str) -> Result<Vec<String>, AllocError> {
         words.push(String::from_str(alloc, word)?)?;
     }
     Ok(words)
+}
+
+/// How a command ends over a host. The engine that it leaves is let go.
+pub fn status_of<H: Host>(
+    alloc: Global,
+    command: &str,
+    host: &mut H,
+) -> Result<Status, AllocError> {
+    let mut left = None;
+    Ok(run(alloc, &words(alloc, command)?, host, &mut left))
 }

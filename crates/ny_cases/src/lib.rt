@@ -6,4 +6,6 @@ mod checks;
 #[cfg(test)]
 mod hosts;
 #[cfg(test)]
+mod pools;
+#[cfg(test)]
 mod renders;

@@ -1,6 +1,6 @@
-use crate::hosts::{Fault, Kind, host, words};
+use crate::hosts::{Fault, Kind, host, status_of};
 use ny_io::RealHost;
-use ny_top::{Status, run};
+use ny_top::Status;
 use std::alloc::{AllocError, Global};
 use std::fs;
 use std::test::Fail;
@@ -85,7 +85,7 @@ fn succeeds_with_ample_memory(rt: HostRuntime) -> Result<(), Fail> {
         for step in [1, 7, AMPLE] {
             assert!(rt; 1 <= step);
             let mut host = host(alloc, Vec::from_slice(alloc, text)?, step, None)?;
-            let status = run(alloc, &words(alloc, COMMAND)?, &mut host);
+            let status = status_of(alloc, COMMAND, &mut host)?;
             assert_eq!(rt; status, Status::Ok, "{name}");
             let expected = file(alloc, count, sample)?;
             let Some((created, bytes)) = host.created() else {
@@ -114,7 +114,7 @@ type Refusal = (
 
 const SONG: &[u8] = b"play const(0.5, 0.001)";
 
-const REFUSALS: [Refusal; 30] = [
+const REFUSALS: [Refusal; 32] = [
     // Words that are no command.
     (
         "render a.sal",
@@ -135,7 +135,25 @@ const REFUSALS: [Refusal; 30] = [
         b"fault: usage\n",
     ),
     (
-        "render a.sal a.wav --pool 16",
+        "render a.sal a.wav --pool 0",
+        SONG,
+        Some((Kind::Open, 1)),
+        AMPLE,
+        Status::Usage,
+        None,
+        b"fault: usage\n",
+    ),
+    (
+        "render a.sal a.wav --pool 65537",
+        SONG,
+        Some((Kind::Open, 1)),
+        AMPLE,
+        Status::Usage,
+        None,
+        b"fault: usage\n",
+    ),
+    (
+        "render a.sal a.wav --pool 16 --pool 16",
         SONG,
         None,
         AMPLE,
@@ -208,7 +226,7 @@ const REFUSALS: [Refusal; 30] = [
     ),
     // Words that are.
     (
-        "render a.sal a.wav --block 4096 --rate 0000008000",
+        "render a.sal a.wav --block 4096 --pool 65536 --rate 0000008000",
         SONG,
         None,
         AMPLE,
@@ -406,7 +424,7 @@ fn failing_hosts(rt: HostRuntime) -> Result<(), Fail> {
         assert!(rt; 1 <= step);
         let mut host = host(alloc, Vec::from_slice(alloc, text)?, step, fault)?;
         assert_eq!(rt;
-            run(alloc, &words(alloc, command)?, &mut host),
+            status_of(alloc, command, &mut host)?,
             status,
             "{command} {fault:?}"
         );
@@ -434,18 +452,12 @@ fn padded(alloc: Global, len: usize) -> Result<Vec<u8>, AllocError> {
 fn long_texts(rt: HostRuntime) -> Result<(), Fail> {
     let alloc = rt.alloc();
     let mut longest = host(alloc, padded(alloc, 1_048_576)?, AMPLE, None)?;
-    assert_eq!(rt;
-        run(alloc, &words(alloc, COMMAND)?, &mut longest),
-        Status::Ok
-    );
+    assert_eq!(rt; status_of(alloc, COMMAND, &mut longest)?, Status::Ok);
     let whole = file(alloc, 8, [0xff, 0x3f])?;
     assert_eq!(rt; longest.created(), Some(("a.wav", whole.as_slice())));
 
     let mut longer = host(alloc, padded(alloc, 1_048_577)?, AMPLE, None)?;
-    assert_eq!(rt;
-        run(alloc, &words(alloc, COMMAND)?, &mut longer),
-        Status::Refused
-    );
+    assert_eq!(rt; status_of(alloc, COMMAND, &mut longer)?, Status::Refused);
     assert_eq!(rt; longer.created(), None);
     assert_eq!(rt; longer.printed(), b"refused: too long\n".as_slice());
     Ok(())
@@ -459,16 +471,13 @@ fn a_hundred_constants(rt: HostRuntime) -> Result<(), Fail> {
         text.extend_from_slice(b"+const(0.01, 0.001)")?;
     }
     let mut most = host(alloc, Vec::from_slice(alloc, &text)?, AMPLE, None)?;
-    assert_eq!(rt; run(alloc, &words(alloc, COMMAND)?, &mut most), Status::Ok);
+    assert_eq!(rt; status_of(alloc, COMMAND, &mut most)?, Status::Ok);
     let whole = file(alloc, 8, [0xff, 0x7f])?;
     assert_eq!(rt; most.created(), Some(("a.wav", whole.as_slice())));
 
     text.extend_from_slice(b"+const(0.01, 0.001)")?;
     let mut more = host(alloc, text, AMPLE, None)?;
-    assert_eq!(rt;
-        run(alloc, &words(alloc, COMMAND)?, &mut more),
-        Status::Refused
-    );
+    assert_eq!(rt; status_of(alloc, COMMAND, &mut more)?, Status::Refused);
     assert_eq!(rt; more.printed(), b"refused: form\n".as_slice());
     Ok(())
 }
@@ -478,11 +487,11 @@ fn real_files(rt: HostRuntime) -> Result<(), Fail> {
     let alloc = rt.alloc();
     fs::write(&rt, "a.sal", SONG)?;
     let mut host = RealHost::new(rt.clone()?);
-    assert_eq!(rt; run(alloc, &words(alloc, COMMAND)?, &mut host), Status::Ok);
+    assert_eq!(rt; status_of(alloc, COMMAND, &mut host)?, Status::Ok);
     let bytes = fs::read(&rt, "a.wav")?;
     assert_eq!(rt; bytes.as_slice(), file(alloc, 8, [0xff, 0x3f])?.as_slice());
     assert_eq!(rt;
-        run(alloc, &words(alloc, "render b.sal a.wav")?, &mut host),
+        status_of(alloc, "render b.sal a.wav", &mut host)?,
         Status::OpenFault
     );
     Ok(())

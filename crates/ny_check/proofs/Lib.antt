@@ -5,3 +5,6 @@ pub mod Silent
 pub mod Smaller
 pub mod Pairs
 pub mod ScalarEquation
+pub mod Uses
+pub mod MeaningEquation
+pub mod WorkedRows

@@ -10,21 +10,21 @@ use Rattle.ny_check.specs.declared.value.Scalar.{Scalar}
 use Rattle.ny_check.specs.declared.value.Scalar.TheVariants as scalar
 use Rattle.ny_check.specs.Code.{Code, node_at, function_at, IsBelow, AllBelow, BindsBelow}
 use Rattle.ny_check.specs.Recursion.{below}
-use Rattle.ny_check.specs.Values.{Scalars, scalar_of, scalar_node, scalars_after}
+use Rattle.ny_check.specs.Values.{Scalars, scalar_of, scalar_node, scalars_after, argument, passed}
 use Rattle.ny_check.proofs.Smaller.{below-at, by_smaller-is}
 
-map-below : (n : ℕ) (other : Scalars → Scalar) (f : ℕ → Scalars → Scalar) (names : Scalars) (es : List ExprId) → AllBelow n es → map (λ (e : ExprId). below n other f e.0 names) es ≡ map (λ (e : ExprId). f e.0 names) es
+map-below : (n : ℕ) (other : Scalars → Scalar) (f : ℕ → Scalars → Scalar) (names : Scalars) (es : List ExprId) → AllBelow n es → map (argument (below n other f) names) es ≡ map (argument f names) es
 map-below n other f names [] h = refl
 map-below n other f names (e ∷ es) h =
-    let first : below n other f e.0 names ≡ f e.0 names = ap (λ g. g names) (below-at n e.0 other f h.0) in
+    let first : argument (below n other f) names e ≡ argument f names e = ap (λ (g : Scalars → Scalar). passed (g names)) (below-at n e.0 other f h.0) in
     let rest = map-below n other f names es h.1 in
     cc
 
 scalars_after-below : (n : ℕ) (other : Scalars → Scalar) (f : ℕ → Scalars → Scalar) (bs : List (NameId × ExprId)) (names : Scalars) → BindsBelow n bs → scalars_after (below n other f) bs names ≡ scalars_after f bs names
 scalars_after-below n other f [] names h = refl
 scalars_after-below n other f (b ∷ bs) names h =
-    ap (λ (g : Scalars → Scalar). scalars_after (below n other f) bs (names ++ (b.0, g names) ∷ [])) (below-at n b.1.0 other f h.0)
-    ∙ scalars_after-below n other f bs (names ++ (b.0, f b.1.0 names) ∷ []) h.1
+    ap (λ (g : Scalars → Scalar). scalars_after (below n other f) bs (names ++ (b.0, passed (g names)) ∷ [])) (below-at n b.1.0 other f h.0)
+    ∙ scalars_after-below n other f bs (names ++ (b.0, passed (f b.1.0 names)) ∷ []) h.1
 
 pub scalar_node-below : (code : Code) (n : ℕ) (other : Scalars → Scalar) (f : ℕ → Scalars → Scalar) (at : Node) (names : Scalars) → IsBelow code.functions n at → scalar_node code at (below n other f) names ≡ scalar_node code at f names
 scalar_node-below code n other f (node.Global e) names h = ap (λ (g : Scalars → Scalar). g []) (below-at n e.0 other f h)
@@ -59,7 +59,7 @@ scalar_of-at code e at here names found is h =
 pub ruleset by_node = (scalar_of-at)
 
 -- a call, by the steps of one: the arguments, the names in the body, the body
-pub scalar_of-call : (code : Code) (e : ℕ) (f : FunctionId) (es : List ExprId) (here : Node) (names inner : Scalars) (params : List NameId) (arguments : List Scalar) (body : ExprId) (s : Scalar) → here ≡ node_at code e → here ≡ node.Call f es → IsBelow code.functions e here → arguments ≡ map (λ (a : ExprId). scalar_of code a.0 names) es → params ≡ (function_at code f.0).params → inner ≡ zip params arguments → body ≡ (function_at code f.0).body → s ≡ scalar_of code body.0 inner → s ≡ scalar_of code e names
+pub scalar_of-call : (code : Code) (e : ℕ) (f : FunctionId) (es : List ExprId) (here : Node) (names inner : Scalars) (params : List NameId) (arguments : List Scalar) (body : ExprId) (s : Scalar) → here ≡ node_at code e → here ≡ node.Call f es → IsBelow code.functions e here → arguments ≡ map (argument (scalar_of code) names) es → params ≡ (function_at code f.0).params → inner ≡ zip params arguments → body ≡ (function_at code f.0).body → s ≡ scalar_of code body.0 inner → s ≡ scalar_of code e names
 scalar_of-call code e f es here names inner params arguments body s found is below args ps pairs b value =
     let eq = scalar_of-at code e (node.Call f es) here names found is below in
     value ∙ rw (b, pairs, ps, args) (sym eq)

@@ -1,6 +1,9 @@
 -- The values of numbers and tests.
-use Rattle.std.specs.Prelude.{ℕ, List, [], ◌∷◌, ◌++◌, map, zip, Bool, false, nat_eq, if◌then◌else◌, ℤ, pos, int_lt, not, ◌&&◌, ◌||◌}
+use Rattle.std.specs.Prelude.{ℕ, List, [], ◌∷◌, ◌++◌, map, zip, Bool, false, if◌then◌else◌, ℤ, pos, int_lt, not, ◌&&◌, ◌||◌}
 use Rattle.std.specs.Int.{int_min, int_max}
+use Rattle.std.specs.Option.{unwrap_or}
+use Rattle.ny_scope.specs.Scopes.{last_of}
+use Rattle.ny_resolve.specs.Keys.{same_name}
 use Rattle.ny_num.specs.Numbers.{fix_add, fix_sub, fix_mul, fix_div, fix_neg}
 use Rattle.ny_resolve.specs.declared.term.NameId.{NameId}
 use Rattle.ny_resolve.specs.declared.builtin.Relation.{Relation}
@@ -19,10 +22,9 @@ use Rattle.ny_check.specs.Recursion.{by_smaller}
 abbrev pub Scalars : Type 0
 Scalars = List (NameId × Scalar)
 
--- what the last pair of a name says
-abbrev pub last_of : Scalar → NameId → Scalars → Scalar
-last_of found x [] = found
-last_of found x (b ∷ bs) = last_of (if nat_eq b.0.0 x.0 then b.1 else found) x bs
+-- what a name is: what its last pair says; a name without one is not looked at
+abbrev pub scalar_named : NameId → Scalars → Scalar
+scalar_named x names = unwrap_or (last_of (same_name x) names) Sound
 
 abbrev pub scalar_in : {S : Type 0} → Value S → Scalar
 scalar_in (value.Number v) = Number v
@@ -76,19 +78,28 @@ abbrev pub number_in : Scalar → ℤ
 number_in (Number v) = v
 number_in _ = pos 0
 
+-- what a name can stand for: a number, and whatever else is not looked at
+abbrev pub passed : Scalar → Scalar
+passed (Number v) = Number v
+passed _ = Sound
+
+-- an argument of a call
+abbrev pub argument : (ℕ → Scalars → Scalar) → Scalars → ExprId → Scalar
+argument rec names e = passed (rec e.0 names)
+
 -- each bind of a block sees those before it
 abbrev pub scalars_after : (ℕ → Scalars → Scalar) → List (NameId × ExprId) → Scalars → Scalars
 scalars_after rec [] names = names
-scalars_after rec (b ∷ bs) names = scalars_after rec bs (names ++ (b.0, rec b.1.0 names) ∷ [])
+scalars_after rec (b ∷ bs) names = scalars_after rec bs (names ++ (b.0, passed (rec b.1.0 names)) ∷ [])
 
 -- What a node is, of what the nodes before it are. Arguments and binds come first; `#if` has the value of the chosen part; a
 -- function's body sees its parameters alone, and a global variable's value sees no local name.
 abbrev pub scalar_node : Code → Node → (ℕ → Scalars → Scalar) → Scalars → Scalar
 scalar_node code (node.Number v) rec names = Number v
-scalar_node code (node.Local x) rec names = last_of Sound x names
+scalar_node code (node.Local x) rec names = scalar_named x names
 scalar_node code (node.Global e) rec names = rec e.0 []
 scalar_node code (node.Call f es) rec names =
-    rec (function_at code f.0).body.0 (zip (function_at code f.0).params (map (λ (e : ExprId). rec e.0 names) es))
+    rec (function_at code f.0).body.0 (zip (function_at code f.0).params (map (argument rec names) es))
 scalar_node code (node.Block bs e) rec names = rec e.0 (scalars_after rec bs names)
 scalar_node code (node.Add a b) rec names = of_numbers fix_add (rec a.0 names) (rec b.0 names)
 scalar_node code (node.Sub a b) rec names = of_numbers fix_sub (rec a.0 names) (rec b.0 names)

@@ -1,4 +1,5 @@
-ghost use Rattle.std.specs.Prelude.{◌≡◌, ◌≤◌, IfOk, IfErr, Some, None};
+ghost use Rattle.std.specs.Prelude.{◌≡◌, ◌<◌, ◌≤◌, ◌^◌, IfOk, IfErr, Some, None};
+ghost use Rattle.ny_syntax.specs.Sizes.{tree_size};
 ghost use Rattle.ny_kinds.specs.Whole.{text_kind, channels_in};
 ghost use Rattle.ny_resolve.specs.Declarations.{tree_read, ReadWhole};
 ghost use Rattle.ny_check.specs.Acceptance.{kind_noted, first_fault, fault_of, program_in, program_with, IsRefusal, IsRefusalOr};
@@ -58,6 +59,9 @@ fn judge(alloc: Global, read: &ReadTree, play_at: u32) -> Result<Verdict, AllocE
     ensures few { IfOk result (λ j. (1 ≤ j.channels) × (j.channels ≤ 8)) }
 {
     let declared = read.declared.as_slice();
+    if declared.len() > 0xffff_ffff {
+        return Err(AllocError);
+    }
     let found = text_kind(alloc, declared, &read.play)?;
     let deep = GREATEST_DEPTH < text_depth(alloc, declared, &read.play)?;
     let heavy = GREATEST_WEIGHT < text_weight(alloc, declared, &read.play)?;
@@ -91,9 +95,11 @@ fn answer(alloc: Global, read: &ReadTree, verdict: Verdict, end: u32) -> Result<
     }
 }
 
-/// The program of a text that the caller keeps, or the first of its faults.
+/// The program of a text that the caller keeps, or the first of its faults. The tree has fewer than 2^32
+/// expressions and names, as each tree of a text has (`ny_syntax::size_laws`).
 #[tactic(auto, unfolding(crate::specs::Acceptance::fault_of, crate::specs::Acceptance::program_in))]
 pub fn check_tree(alloc: Global, tree: &Tree) -> Result<Program, CheckFault>
+    requires { tree_size tree.now < 2 ^ 32 }
     ensures accepted { IfOk result (λ p. fault_of tree.now ≡ None) }
     ensures program { IfOk result (λ p. program_in tree.now ≡ Some p) }
     ensures refused { IfErr result (IsRefusal (fault_of tree.now)) }
@@ -104,8 +110,10 @@ pub fn check_tree(alloc: Global, tree: &Tree) -> Result<Program, CheckFault>
 }
 
 /// The program of a text, or the first of its faults: of the first kind in the order of the list, the one at
-/// the least place.
+/// the least place. The tree has fewer than 2^32 expressions and names, as each tree of a text has
+/// (`ny_syntax::size_laws`).
 pub fn check(alloc: Global, tree: Tree) -> Result<Program, CheckFault>
+    requires { tree_size tree < 2 ^ 32 }
     ensures accepted { IfOk result (λ p. fault_of tree ≡ None) }
     ensures program { IfOk result (λ p. program_in tree ≡ Some p) }
     ensures refused { IfErr result (IsRefusal (fault_of tree)) }

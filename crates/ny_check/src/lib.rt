@@ -8,6 +8,7 @@ mod draft;
 mod form;
 mod free;
 mod node;
+pub mod operations;
 mod program;
 mod scalar;
 mod value;

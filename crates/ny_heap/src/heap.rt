@@ -171,6 +171,7 @@ impl<B> Heap<B> {
     /// How many blocks are taken: those that somebody has still to read.
     pub fn live(&self) -> u32
         ensures live { result ≡ live_of self.now }
+        ensures within { result ≤ self.now.pool }
         ensures laws { HeapLaws self.now }
     {
         self.size - self.table.pool.free()

@@ -8,6 +8,9 @@ use Rattle.std.proofs.lemmas.List.{get_or_past}
 use Rattle.ny_resolve.specs.declared.term.Declared.{Declared}
 use Rattle.ny_kinds.specs.declared.kind.Kind.{Kind}
 use Rattle.ny_kinds.specs.declared.kind.Found.{Found}
+use Rattle.ny_kinds.specs.declared.kind.Stop.{Stop}
+use Rattle.ny_kinds.specs.declared.kind.Stop.TheVariants as stop
+use Rattle.ny_kinds.specs.Table.{IsEarlier}
 use Rattle.ny_kinds.specs.Kinds.{Behavior, nothing, behaviors_after, seen, behavior, behavior_at, no_declared}
 
 behaviors_after-append : (known : List Behavior) (xs ys : List Declared) → behaviors_after known (xs ++ ys) ≡ behaviors_after (behaviors_after known xs) ys
@@ -59,4 +62,9 @@ behavior-seen ds here n ks f h k is = is ∙ ap (λ (b : Behavior). b ks) (sym (
 pub behavior-past : (ds : List Declared) (here n : ℕ) (ks : List Kind) → here ≤ length ds → here ≤ n → record { kind = None; fault = None } ≡ get_or (seen ds here) n nothing ks
 behavior-past ds here n ks h k = ap (λ (b : Behavior). b ks) (sym (seen-past ds here n h k))
 
-pub ruleset of_declarations = (behavior-seen, behavior-past)
+-- what is missing in a body that comes before comes before
+pub earlier-wider : (n m : ℕ) (s : Stop) → n < m → IsEarlier n s → IsEarlier m s
+earlier-wider n m (stop.Missing u) h k = let one : u.number < n = k in omega arith
+earlier-wider n m stop.OutOfMemory h k = k
+
+pub ruleset of_declarations = (behavior-seen, behavior-past, earlier-wider)

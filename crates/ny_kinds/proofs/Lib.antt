@@ -1,2 +1,4 @@
 pub mod Declarations
+pub mod Heights
+pub mod Joined
 pub mod Stack

@@ -51,15 +51,15 @@ pub stack_push : (n : ℕ) (us us' : List Use) (u : Use) → us' ≡ us ++ u ∷
 stack_push n us us' u pushed within h = subst (All (λ (w : Use). w.number < n)) (sym pushed) (All-push (λ (w : Use). w.number < n) us u h within)
 
 -- the table is longer by one
-pub smaller_longer : (len len' top top' : ℕ) → len' ≡ len + 1 → len < 2 ^ 63 → top' ≤ 2 ^ 32 → 0 < top → (2 ^ 63 - len') * 2 ^ 32 + top' < (2 ^ 63 - len) * 2 ^ 32 + top
+pub smaller_longer : (len len' top top' : ℕ) → len < len' → len < 2 ^ 63 → top' ≤ 2 ^ 32 → 0 < top → (2 ^ 63 - len') * 2 ^ 32 + top' < (2 ^ 63 - len) * 2 ^ 32 + top
 smaller_longer len len' top top' more small high low = omega arith
 
--- an earlier function stands on the stack
-pub smaller_down : (left top top' : ℕ) → top' < top → left + top' < left + top
-smaller_down left top top' h = omega arith
+-- an earlier function stands on the stack, and the table is no shorter
+pub smaller_down : (len len' top top' : ℕ) → len ≤ len' → len' < 2 ^ 63 → top' < top → (2 ^ 63 - len') * 2 ^ 32 + top' < (2 ^ 63 - len) * 2 ^ 32 + top
+smaller_down len len' top top' more small h = omega arith
 
-pub numbers_of : (here : ℕ) (s : Stop) (us : List Use) → s ≡ stop.Missing us → IsEarlier here s → All (λ (u : Use). u.number < here) us
-numbers_of here s us is h = subst (IsEarlier here) is h
+pub number_of : (here : ℕ) (s : Stop) (u : Use) → s ≡ stop.Missing u → IsEarlier here s → u.number < here
+number_of here s u is h = subst (IsEarlier here) is h
 
 pub stack_last : (n : ℕ) (us all : List Use) (u : Use) → all ≡ us ++ u ∷ [] → All (λ (w : Use). w.number < n) all → u.number < n
 stack_last n us all u is h =
@@ -79,25 +79,3 @@ top_is us all u is = ap top_of is ∙ top_of-push us u
 
 pub le_few : {a n : ℕ} → a ≤ n → n < 2 ^ 32 → a ≤ 2 ^ 32
 le_few h k = omega arith
-
-pub all_append : (n : ℕ) (us vs ws : List Use) → ws ≡ us ++ vs → All (λ (w : Use). w.number < n) us → All (λ (w : Use). w.number < n) vs → All (λ (w : Use). w.number < n) ws
-all_append n us vs ws is h k = subst (All (λ (w : Use). w.number < n)) (sym is) (All-append (λ (w : Use). w.number < n) us vs h k)
-
--- the last of a list that is put on the stack
-pub top_of-append : (xs us : List Use) → (us ≡ [] → ⊥) → top_of (xs ++ us) ≡ top_of us
-top_of-append xs [] h = absurd (h refl)
-top_of-append [] (u ∷ us) h = refl
-top_of-append (x ∷ []) (u ∷ us) h = refl
-top_of-append (x ∷ (y ∷ xs)) (u ∷ us) h = top_of-append (y ∷ xs) (u ∷ us) h
-
-pub append_some : (us vs : List Use) {A : Type 0} → (vs ≡ [] → ⊥) → us ++ vs ≡ [] → A
-append_some [] vs h e = absurd (h e)
-append_some (u ∷ us) vs h e = cc
-
--- what a test for emptiness denies
-pub not_nil : (b : Bool) (us : List Use) → (IsTrue b ↔ (us ≡ [])) → b ≡ false → us ≡ [] → ⊥
-not_nil true us h e k = cc
-not_nil false us h e k = let no : false ≡ true = h.1 k in cc
-
-pub numbers_wider : (n m : ℕ) (us : List Use) → n < m → All (λ (u : Use). u.number < n) us → All (λ (u : Use). u.number < m) us
-numbers_wider n m us h all = λ k d l. let one : (get_or us k d).number < n = all k d l in omega arith

@@ -1,6 +1,9 @@
--- The kinds of expressions, through calls, with the least place of a refusal met on the way.
+-- The kinds of expressions, through calls, and the least place of a refusal in them and in the bodies that they reach.
 use Rattle.std.specs.Prelude.{ℕ, min, Bool, true, false, not, if◌then◌else◌, List, [], ◌∷◌, ◌++◌, zip, get_or, take, Option, Some, None, nat_eq, pos}
 use Rattle.std.specs.List.{list_any, list_all}
+use Rattle.std.specs.Option.{option_flatten}
+use Rattle.ny_scope.specs.Scopes.{last_of}
+use Rattle.ny_resolve.specs.Keys.{same_name}
 use Rattle.ny_resolve.specs.declared.term.Term.TheVariants as term
 use Rattle.ny_resolve.specs.declared.term.Term.TheFolds.{fold-Part, fold-Bound}
 use Rattle.ny_resolve.specs.declared.term.Term.TheOpen.{Term-F, Part-F, Bound-F}
@@ -14,6 +17,7 @@ use Rattle.ny_kinds.specs.declared.kind.Kind.TheVariants.{Number, Sound}
 use Rattle.ny_kinds.specs.declared.kind.Judgement.{Judgement}
 use Rattle.ny_kinds.specs.declared.kind.Judgement.TheVariants.{Is, Refused, Silent}
 use Rattle.ny_kinds.specs.declared.kind.Found.{Found}
+use Rattle.ny_kinds.specs.declared.kind.Reached.{Reached}
 use Rattle.ny_kinds.specs.Rows.{operator_row, is_value, is_sound, is_number, is_test, given}
 
 -- a function, as what its body is for kinds of its arguments: a kind, if there is one, and the least place of a refusal in it
@@ -25,43 +29,39 @@ pub record Scope : Type 0 where
   pub values : List (NameId × Option Kind)
   pub declared : List Behavior
 
--- an expression, as what is found of it, after the least place met before
+-- an expression, as what is found of it at a place: its kind, if it has one, and the least place of a refusal in it
 abbrev pub Kinded : Type 0
-Kinded = Scope → Option ℕ → Found
+Kinded = Scope → Found
 
 pub record KindedBind : Type 0 where
   pub name : NameId
   pub value : Kinded
 
--- the kinds of several expressions, and the least place met before and in them
+-- the kinds of several expressions, and the least place of a refusal in them
 pub record Several : Type 0 where
   pub kinds : List (Option Kind)
   pub fault : Option ℕ
 
--- the kinds of a block's binds, the scope after them, and the least place met before and in them
+-- the kinds of a block's binds, the names after them, and the least place of a refusal in them
 pub record Several_binds : Type 0 where
   pub values : List (NameId × Option Kind)
   pub kinds : List (Option Kind)
   pub fault : Option ℕ
 
--- what the last pair of a name says
-abbrev pub last_of : Option Kind → NameId → List (NameId × Option Kind) → Option Kind
-last_of found x [] = found
-last_of found x (b ∷ bs) = last_of (if nat_eq b.0.0 x.0 then b.1 else found) x bs
+-- the kind of what a name stands for, by its last pair
+abbrev pub kind_named : NameId → List (NameId × Option Kind) → Option Kind
+kind_named x values = option_flatten (last_of (same_name x) values)
 
 -- the lesser of two places, of which there may be none
-abbrev pub lesser : Option ℕ → ℕ → Option ℕ
-lesser None p = Some p
-lesser (Some q) p = Some (min q p)
-
 abbrev pub least : Option ℕ → Option ℕ → Option ℕ
-least best None = best
-least best (Some p) = lesser best p
+least None q = q
+least (Some p) None = Some p
+least (Some p) (Some q) = Some (min p q)
 
--- what a judgement makes of the expression at this place
+-- what a judgement makes of the expression at this place, in whose parts this is the least place of a refusal
 abbrev pub judged : ℕ → Judgement → Option ℕ → Found
 judged at (Is k) fault = record { kind = Some k; fault = fault }
-judged at Refused fault = record { kind = None; fault = lesser fault at }
+judged at Refused fault = record { kind = None; fault = least fault (Some at) }
 judged at Silent fault = record { kind = None; fault = fault }
 
 abbrev pub one_more : Option Kind → Option (List Kind) → Option (List Kind)
@@ -98,10 +98,10 @@ returned_row None = Silent
 returned_row (Some k) = given (not (is_test k)) k
 
 -- a call reaches the function's body where each argument is a number or a sound
-abbrev pub call_of : ℕ → Behavior → Option (List Kind) → Option ℕ → Found
-call_of at f None fault = judged at Silent fault
-call_of at f (Some ks) fault =
-    if list_all is_value ks then judged at (returned_row (f ks).kind) (least fault (f ks).fault) else judged at Refused fault
+abbrev pub called : Behavior → Option (List Kind) → Reached
+called f None = record { row = Silent; fault = None }
+called f (Some ks) =
+    if list_all is_value ks then record { row = returned_row (f ks).kind; fault = (f ks).fault } else record { row = Refused; fault = None }
 
 abbrev pub is_refused_bind : Option Kind → Bool
 is_refused_bind None = false
@@ -124,15 +124,16 @@ abbrev pub with_value : NameId → Option Kind → Scope → Scope
 with_value x k s = record { values = s.values ++ (x, k) ∷ []; declared = s.declared }
 
 -- expressions in order
-abbrev pub several : List Kinded → Scope → List (Option Kind) → Option ℕ → Several
-several [] s done best = record { kinds = done; fault = best }
-several (e ∷ es) s done best = let f = e s best in several es s (done ++ f.kind ∷ []) f.fault
+abbrev pub several : List Kinded → Scope → Several
+several [] s = record { kinds = []; fault = None }
+several (e ∷ es) s = let f = e s in let rest = several es s in record { kinds = f.kind ∷ rest.kinds; fault = least f.fault rest.fault }
 
 -- the binds of a block, each seen by those after it
-abbrev pub several_binds : List KindedBind → Scope → List (Option Kind) → Option ℕ → Several_binds
-several_binds [] s done best = record { values = s.values; kinds = done; fault = best }
-several_binds (b ∷ bs) s done best =
-    let f = b.value s best in several_binds bs (with_value b.name (named_kind f.kind) s) (done ++ f.kind ∷ []) f.fault
+abbrev pub several_binds : List KindedBind → Scope → Several_binds
+several_binds [] s = record { values = s.values; kinds = []; fault = None }
+several_binds (b ∷ bs) s =
+    let f = b.value s in let rest = several_binds bs (with_value b.name (named_kind f.kind) s) in
+    record { values = rest.values; kinds = f.kind ∷ rest.kinds; fault = least f.fault rest.fault }
 
 abbrev pub nothing : Behavior
 nothing ks = record { kind = None; fault = None }
@@ -142,28 +143,27 @@ abbrev pub Formed : Type 0
 Formed = ℕ → Kinded
 
 abbrev pub term_kind : Term-F Formed KindedBind Kinded → Formed
-term_kind (Term-F.Number v) at s best = judged at (Is Number) best
-term_kind (Term-F.Local x) at s best = record { kind = last_of None x s.values; fault = best }
-term_kind (Term-F.Global n) at s best = judged at (Is Number) best
-term_kind (Term-F.Call n es) at s best =
-    let args = several es s [] best in call_of at (get_or s.declared n nothing) (all_kinds args.kinds) args.fault
-term_kind (Term-F.Block bs e) at s best =
-    let binds = several_binds bs s [] best in
-    let f = e (record { values = binds.values; declared = s.declared }) binds.fault in
-    judged at (block_row binds.kinds f.kind) f.fault
-term_kind (Term-F.Apply o es) at s best =
-    let args = several es s [] best in judged at (operands_row o (all_kinds args.kinds)) args.fault
-term_kind (Term-F.Over a v) at s best = let f = a s best in judged at (divided_row f.kind) f.fault
-term_kind (Term-F.Repeat o x n e) at s best = let f = e (with_value x (Some Number) s) best in judged at (sound_row f.kind) f.fault
-term_kind (Term-F.Nameless place e) at s best = let f = e s (lesser best place) in judged at Silent f.fault
-term_kind (Term-F.Warp vs e) at s best = let f = e s best in judged at (sound_row f.kind) f.fault
-term_kind (Term-F.Rate w r e) at s best = let f = e s best in judged at (sound_row f.kind) f.fault
+term_kind (Term-F.Number v) at s = judged at (Is Number) None
+term_kind (Term-F.Local x) at s = record { kind = kind_named x s.values; fault = None }
+term_kind (Term-F.Global n) at s = judged at (Is Number) None
+term_kind (Term-F.Call n es) at s =
+    let args = several es s in let body = called (get_or s.declared n nothing) (all_kinds args.kinds) in
+    judged at body.row (least args.fault body.fault)
+term_kind (Term-F.Block bs e) at s =
+    let binds = several_binds bs s in let f = e (record { values = binds.values; declared = s.declared }) in
+    judged at (block_row binds.kinds f.kind) (least binds.fault f.fault)
+term_kind (Term-F.Apply o es) at s = let args = several es s in judged at (operands_row o (all_kinds args.kinds)) args.fault
+term_kind (Term-F.Over a v) at s = let f = a s in judged at (divided_row f.kind) f.fault
+term_kind (Term-F.Repeat o x n e) at s = let f = e (with_value x (Some Number) s) in judged at (sound_row f.kind) f.fault
+term_kind (Term-F.Nameless place e) at s = let f = e s in judged at Silent (least (Some place) f.fault)
+term_kind (Term-F.Warp vs e) at s = let f = e s in judged at (sound_row f.kind) f.fault
+term_kind (Term-F.Rate w r e) at s = let f = e s in judged at (sound_row f.kind) f.fault
 
 abbrev pub bound_kind : Bound-F Formed KindedBind Kinded → KindedBind
 bound_kind b = record { name = b.name; value = b.value }
 
 abbrev pub part_kind : Part-F Formed KindedBind Kinded → Kinded
-part_kind p s best = p.term p.at s best
+part_kind p s = p.term p.at s
 
 abbrev pub kind_of : Part → Kinded
 kind_of = fold-Part Formed KindedBind Kinded term_kind bound_kind part_kind
@@ -179,7 +179,7 @@ some_kinds (k ∷ ks) = Some k ∷ some_kinds ks
 
 -- a declaration that sees those before it
 unfoldable pub behavior : List Behavior → Declared → Behavior
-behavior before d ks = kind_of d.body (record { values = zip d.params (some_kinds ks); declared = before }) None
+behavior before d ks = kind_of d.body (record { values = zip d.params (some_kinds ks); declared = before })
 
 -- the declarations in order, after those already known; each sees those before it
 abbrev pub behaviors_after : List Behavior → List Declared → List Behavior

@@ -12,9 +12,9 @@ pub record IsRight (ds : List Declared) (e : Entry) : Type 0 where
   pub within : e.number < length ds
   pub found : e.found ≡ behavior_at ds e.number e.kinds
 
--- what is missing are functions that come before
+-- what is missing is a function that comes before
 abbrev pub IsEarlier : ℕ → Stop → Type 0
-IsEarlier here (stop.Missing us) = All (λ (u : Use). u.number < here) us
+IsEarlier here (stop.Missing u) = u.number < here
 IsEarlier here stop.OutOfMemory = Unit {0}
 
 -- 1 more than the number of the last of what is still to be judged

@@ -8,7 +8,7 @@ use Rattle.ny_kinds.specs.declared.kind.Judgement.{Judgement}
 use Rattle.ny_kinds.specs.declared.kind.Judgement.TheVariants.{Silent}
 use Rattle.ny_kinds.specs.declared.kind.Found.{Found}
 use Rattle.ny_kinds.specs.Rows.{given, is_number}
-use Rattle.ny_kinds.specs.Kinds.{judged, kind_of, scope_of}
+use Rattle.ny_kinds.specs.Kinds.{judged, least, kind_of, scope_of}
 
 -- a global value is a number
 abbrev pub value_row : Option Kind → Judgement
@@ -26,22 +26,26 @@ play_row None = Silent
 play_row (Some k) = given (is_playable k) k
 
 -- a global value, in its declaration of number i among all
-abbrev pub value_kind : List Declared → ℕ → Declared → Option ℕ → Found
-value_kind all i d best = let f = kind_of d.body (scope_of [] all i) best in judged d.body.at (value_row f.kind) f.fault
+abbrev pub value_kind : List Declared → ℕ → Declared → Found
+value_kind all i d = let f = kind_of d.body (scope_of [] all i) in judged d.body.at (value_row f.kind) f.fault
 
--- the least place of a refusal in the global values of declarations from number i on, or before
-abbrev pub values_fault : List Declared → ℕ → List Declared → Option ℕ → Option ℕ
-values_fault all i [] best = best
-values_fault all i (d ∷ ds) best = values_fault all (i + 1) ds (if d.is_variable then (value_kind all i d best).fault else best)
+-- a refusal in a declaration of number i, if it is a global value: a function counts where it is called
+abbrev pub value_fault : List Declared → ℕ → Declared → Option ℕ
+value_fault all i d = if d.is_variable then (value_kind all i d).fault else None
+
+-- the least place of a refusal in the global values of declarations from number i on
+abbrev pub values_fault : List Declared → ℕ → List Declared → Option ℕ
+values_fault all i [] = None
+values_fault all i (d ∷ ds) = least (value_fault all i d) (values_fault all (i + 1) ds)
 
 -- what is played, after all declarations
-abbrev pub play_kind : List Declared → Option Part → Option ℕ → Found
-play_kind all None best = record { kind = None; fault = best }
-play_kind all (Some e) best = let f = kind_of e (scope_of [] all (length all)) best in judged e.at (play_row f.kind) f.fault
+abbrev pub play_kind : List Declared → Option Part → Found
+play_kind all None = record { kind = None; fault = None }
+play_kind all (Some e) = let f = kind_of e (scope_of [] all (length all)) in judged e.at (play_row f.kind) f.fault
 
 -- the kind of what a text plays, and the least place of a refusal in the text
 unfoldable pub text_kind : List Declared → Option Part → Found
-text_kind all play = play_kind all play (values_fault all 0 all None)
+text_kind all play = let f = play_kind all play in record { kind = f.kind; fault = least (values_fault all 0 all) f.fault }
 
 -- how many channels what is played has: an accepted text has no vector of none or of more than eight
 abbrev pub channels_in : Option Kind → ℕ

@@ -1,46 +1,38 @@
-ghost use Rattle.std.specs.Prelude.{◌≡◌, ◌<◌, ◌≤◌, get_or, ◌++◌, ◌∷◌, [], List, length, All, IfOk, IfErr, IfSome, IsTrue, map, None, Some, Option, ℕ};
+ghost use Rattle.std.specs.Prelude.{◌≡◌, ◌≤◌, ◌<◌, get_or, length, take, All, IfOk, IfErr, OnOk, map, None, zip, vec_len};
 ghost use Rattle.std.specs.List.{list_any, list_all};
 ghost use Rattle.ny_kinds.specs.Rows.{is_value};
-ghost use Rattle.ny_kinds.specs.Kinds.{last_of, lesser, least, judged, all_kinds, operands_row, divided_row, sound_row, returned_row, call_of, is_refused_bind, is_silent_bind, named_kind, block_row, several, several_binds, kind_of, kind_of_bind, behavior_at, scope_of, seen, nothing};
+ghost use Rattle.ny_kinds.specs.Kinds.{kind_named, least, judged, all_kinds, operands_row, divided_row, sound_row, returned_row, called, is_refused_bind, is_silent_bind, named_kind, block_row, several, several_binds, kind_of, kind_of_bind, some_kinds, behavior, behavior_at, scope_of, seen, nothing};
 ghost use Rattle.ny_kinds.specs.Table.{IsRight, IsEarlier};
 
-use crate::kind::{Entry, Found, Judgement, Kind, Stop, Use};
+use crate::kind::{Found, Judgement, Kind, Reached, Stop, Use};
+use crate::known::{Table, look_up};
 use crate::row::{is_value, operator_row};
 use ny_resolve::{Bound, Declared, NameId, Operator, Part, Term};
+use ny_scope::Scope;
 use sqlite_items::Items;
 use std::alloc::{AllocError, Global};
 
-fn last_kind(values: &[(NameId, Option<Kind>)], x: NameId) -> Option<Kind>
-    ensures { result ≡ last_of None x values.now }
+/// The kind of what a name stands for.
+fn kind_named(values: &Scope<NameId, Option<Kind>>, x: NameId) -> Option<Kind>
+    ensures { result ≡ kind_named x values.now }
 {
-    let mut found = None;
-    for (name, kind) in values {
-        if name.0 == x.0 {
-            found = *kind;
-        }
-    }
-    found
+    values.find(&x).flatten()
 }
 
-fn lesser(best: Option<u32>, at: u32) -> Option<u32>
-    ensures { result ≡ lesser best at }
+/// The lesser of two places, of which there may be none.
+pub(crate) fn least(one: Option<u32>, other: Option<u32>) -> Option<u32>
+    ensures { result ≡ least one other }
 {
-    match best {
-        None => Some(at),
-        Some(p) => Some(p.min(at)),
-    }
-}
-
-fn least(best: Option<u32>, other: Option<u32>) -> Option<u32>
-    ensures { result ≡ least best other }
-{
-    match other {
-        None => best,
-        Some(p) => lesser(best, p),
+    match one {
+        None => other,
+        Some(p) => match other {
+            None => Some(p),
+            Some(q) => Some(p.min(q)),
+        },
     }
 }
 
-/// What a judgement makes of the expression at this place.
+/// What a judgement makes of the expression at this place, in whose parts this is the least place of a refusal.
 pub(crate) fn judged(at: u32, row: Judgement, fault: Option<u32>) -> Found
     ensures { result ≡ judged at row fault }
 {
@@ -51,7 +43,7 @@ pub(crate) fn judged(at: u32, row: Judgement, fault: Option<u32>) -> Found
         },
         Judgement::Refused => Found {
             kind: None,
-            fault: lesser(fault, at),
+            fault: least(fault, Some(at)),
         },
         Judgement::Silent => Found { kind: None, fault },
     }
@@ -167,74 +159,42 @@ fn block_row(kinds: &[Option<Kind>], value: Option<Kind>) -> Judgement
     }
 }
 
-/// Whether two lists of kinds are the same.
-fn same_kinds(a: &[Kind], b: &[Kind]) -> bool
-    ensures { IsTrue result → a.now ≡ b.now }
+/// Each parameter bound to the kind of its argument.
+#[tactic(auto, using(crate::proofs::Stack::paired_end))]
+fn parameters(
+    alloc: Global,
+    params: &[NameId],
+    kinds: &[Kind],
+) -> Result<Scope<NameId, Option<Kind>>, AllocError>
+    ensures { IfOk result (λ all. all ≡ zip params.now (some_kinds kinds.now)) }
 {
-    if a.len() != b.len() {
-        return false;
+    let mut all = Scope::new(alloc);
+    let count = params.len().min(kinds.len());
+    for i in 0..count {
+        all.bind(params[i], Some(kinds[i]))?;
     }
-    for i in 0..a.len() {
-        if a[i] != b[i] {
-            return false;
-        }
-    }
-    true
+    Ok(all)
 }
 
-/// What is known of functions, for kinds of their arguments.
-#[derive(Debug, Drop)]
-pub struct Table {
-    pub entries: Vec<Entry>,
-    /// For each declaration, where its newest entry stands, counted from 1; or 0.
-    pub newest: Vec<usize>,
-}
-
-/// What the table says of a function for these kinds.
-pub(crate) fn look_up(ds: &[Declared], table: &Table, number: u32, kinds: &[Kind]) -> Option<Found>
-    requires known { All (IsRight ds.now) table.now.entries.items }
-    ensures { IfSome result (λ f. f ≡ behavior_at ds.now number kinds.now) }
-{
-    let _ds = ds;
-    let mut at = table.newest.get(number as usize).copied().unwrap_or(0);
-    for _ in 0..table.entries.len() {
-        if at == 0 || table.entries.len() < at {
-            return None;
-        }
-        let entry = &table.entries[at - 1];
-        if entry.number == number && same_kinds(entry.kinds.as_slice(), kinds) {
-            return Some(entry.found);
-        }
-        at = entry.earlier;
-    }
-    None
-}
-
-/// That one function is missing.
-fn missing_one(alloc: Global, used: Use) -> Stop
-    ensures { (here : ℕ) → used.number < here → IsEarlier here result }
-{
-    let mut missing = Items::new(alloc);
-    match missing.push(used) {
-        Ok(()) => Stop::Missing(missing),
-        Err(_) => Stop::OutOfMemory,
-    }
-}
-
-/// What is found of a function's body for these kinds, where the function comes before this declaration.
+/// What is found of a function's body for these kinds, where the function comes before this declaration. What the table
+/// lacks is judged in place, unless too many levels are nested already.
+#[cycle(judge)]
 #[tactic(auto, using(crate::proofs::Declarations::of_declarations))]
 fn body_found(
     alloc: Global,
     ds: &[Declared],
-    table: &Table,
+    table: &mut Table,
+    left: u32,
     here: u32,
     number: u32,
     kinds: Items<Kind>,
 ) -> Result<Found, Stop>
     requires here { here ≤ length ds.now }
-    requires known { All (IsRight ds.now) table.now.entries.items }
+    requires known { All (IsRight ds.now) table.old.entries.items }
     ensures found { IfOk result (λ f. f ≡ get_or (seen ds.now here) number nothing kinds) }
     ensures missing { IfErr result (IsEarlier here) }
+    ensures known { All (IsRight ds.now) table.new.entries.items }
+    ensures kept { vec_len table.old.entries ≤ vec_len table.new.entries }
 {
     if here <= number {
         return Ok(Found {
@@ -242,227 +202,219 @@ fn body_found(
             fault: None,
         });
     }
-    match look_up(ds, table, number, kinds.as_slice()) {
-        None => Err(missing_one(alloc, Use { number, kinds })),
-        Some(body) => Ok(body),
+    if let Some(found) = look_up(ds, table, number, kinds.as_slice()) {
+        return Ok(found);
     }
+    if left == 0 {
+        return Err(Stop::Missing(Use { number, kinds }));
+    }
+    let found = judge_body(alloc, ds, table, left, number, kinds.as_slice())?;
+    table.add(ds, Use { number, kinds }, found)?;
+    Ok(found)
 }
 
-/// A call, of the kinds of its arguments and the least place met before and in them.
+/// What a function's body is for these kinds.
+#[cycle(judge)]
+#[tactic(auto, unfolding(crate::specs::Kinds::behavior))]
+pub(crate) fn judge_body(
+    alloc: Global,
+    ds: &[Declared],
+    table: &mut Table,
+    left: u32,
+    number: u32,
+    kinds: &[Kind],
+) -> Result<Found, Stop>
+    requires within { number < length ds.now }
+    requires known { All (IsRight ds.now) table.old.entries.items }
+    ensures found { IfOk result (λ f. f ≡ behavior_at ds.now number kinds.now) }
+    ensures missing { IfErr result (IsEarlier number) }
+    ensures known { All (IsRight ds.now) table.new.entries.items }
+    ensures kept { vec_len table.old.entries ≤ vec_len table.new.entries }
+{
+    let d = &ds[number as usize];
+    let mut values = parameters(alloc, d.params.as_slice(), kinds)?;
+    Ok(judge(alloc, ds, table, left, number, &d.body, &mut values)?)
+}
+
+/// What a call says, of the kinds of its arguments.
+#[cycle(judge)]
 fn called(
     alloc: Global,
     ds: &[Declared],
-    table: &Table,
+    table: &mut Table,
+    left: u32,
     here: u32,
-    at: u32,
     number: u32,
     kinds: Option<Items<Kind>>,
-    fault: Option<u32>,
-) -> Result<Found, Stop>
+) -> Result<Reached, Stop>
     requires here { here ≤ length ds.now }
-    requires known { All (IsRight ds.now) table.now.entries.items }
-    ensures found { IfOk result (λ f. f ≡ call_of at (get_or (seen ds.now here) number nothing) kinds fault) }
+    requires known { All (IsRight ds.now) table.old.entries.items }
+    ensures reached { IfOk result (λ r. r ≡ called (get_or (seen ds.now here) number nothing) kinds) }
     ensures missing { IfErr result (IsEarlier here) }
+    ensures known { All (IsRight ds.now) table.new.entries.items }
+    ensures kept { vec_len table.old.entries ≤ vec_len table.new.entries }
 {
     match kinds {
-        None => Ok(judged(at, Judgement::Silent, fault)),
+        None => Ok(Reached {
+            row: Judgement::Silent,
+            fault: None,
+        }),
         Some(kinds) => {
             if !all_values(kinds.as_slice()) {
-                return Ok(judged(at, Judgement::Refused, fault));
+                return Ok(Reached {
+                    row: Judgement::Refused,
+                    fault: None,
+                });
             }
-            let body = body_found(alloc, ds, table, here, number, kinds)?;
-            Ok(judged(at, returned_row(body.kind), least(fault, body.fault)))
+            let body = body_found(alloc, ds, table, left, here, number, kinds)?;
+            Ok(Reached {
+                row: returned_row(body.kind),
+                fault: body.fault,
+            })
         }
     }
 }
 
-/// Names with the kinds of what they stand for, and one more.
-fn with_value(
-    alloc: Global,
-    values: &[(NameId, Option<Kind>)],
-    name: NameId,
-    kind: Option<Kind>,
-) -> Result<Vec<(NameId, Option<Kind>)>, AllocError>
-    ensures { IfOk result (λ all. all.items ≡ values.now ++ (name, kind) ∷ []) }
-{
-    let mut all = Vec::from_slice(alloc, values)?;
-    all.push((name, kind))?;
-    Ok(all)
-}
-
-/// The kinds of parts, and the least place met before and in them.
+/// The kinds of parts, and the least place of a refusal in them.
 #[derive(Debug, Drop)]
 struct Parts {
     kinds: Vec<Option<Kind>>,
     fault: Option<u32>,
 }
 
-/// What the binds of a block are.
-#[derive(Debug, Drop)]
-struct Binds {
-    values: Vec<(NameId, Option<Kind>)>,
-    kinds: Vec<Option<Kind>>,
-    fault: Option<u32>,
-}
-
-/// The kind of an expression, and the least place met before and in it; or a function that comes before and is to be judged first.
+/// The kind of an expression, and the least place of a refusal in it; or a function that comes before and is to be judged
+/// first. At most so many levels are `left` to be nested before a function that is missing is put off.
 #[cycle(judge)]
+#[tactic(auto, using(crate::proofs::Joined::of_names))]
 pub(crate) fn judge(
     alloc: Global,
     ds: &[Declared],
-    table: &Table,
+    table: &mut Table,
+    left: u32,
     here: u32,
     e: &Part,
-    values: &[(NameId, Option<Kind>)],
-    best: Option<u32>,
+    values: &mut Scope<NameId, Option<Kind>>,
 ) -> Result<Found, Stop>
     requires here { here ≤ length ds.now }
-    requires known { All (IsRight ds.now) table.now.entries.items }
-    ensures found { IfOk result (λ f. f ≡ kind_of e.now (scope_of values.now ds.now here) best) }
+    requires known { All (IsRight ds.now) table.old.entries.items }
+    ensures found { IfOk result (λ f. f ≡ kind_of e.now (scope_of values.old ds.now here)) }
     ensures missing { IfErr result (IsEarlier here) }
+    ensures known { All (IsRight ds.now) table.new.entries.items }
+    ensures same { OnOk result (values.new ≡ values.old) }
+    ensures kept { vec_len table.old.entries ≤ vec_len table.new.entries }
 {
+    let left = left.saturating_sub(1);
     match &e.term {
-        Term::Number(_) => Ok(judged(e.at, Judgement::Is(Kind::Number), best)),
+        Term::Number(_) => Ok(judged(e.at, Judgement::Is(Kind::Number), None)),
         Term::Local(x) => Ok(Found {
-            kind: last_kind(values, *x),
-            fault: best,
+            kind: kind_named(values, *x),
+            fault: None,
         }),
-        Term::Global(_) => Ok(judged(e.at, Judgement::Is(Kind::Number), best)),
+        Term::Global(_) => Ok(judged(e.at, Judgement::Is(Kind::Number), None)),
         Term::Call(number, parts) => {
-            let parts = judge_parts(alloc, ds, table, here, parts.as_slice(), values, best)?;
+            let parts = judge_parts(alloc, ds, table, left, here, parts.as_slice(), values)?;
             let kinds = all_kinds(alloc, parts.kinds.as_slice())?;
-            Ok(called(alloc, ds, table, here, e.at, *number, kinds, parts.fault)?)
+            let call = called(alloc, ds, table, left, here, *number, kinds)?;
+            Ok(judged(e.at, call.row, least(parts.fault, call.fault)))
         }
         Term::Block(binds, value) => {
-            let binds = judge_binds(alloc, ds, table, here, binds.as_slice(), values, best)?;
-            let value = judge(
-                alloc,
-                ds,
-                table,
-                here,
-                value.get(),
-                binds.values.as_slice(),
-                binds.fault,
-            )?;
+            let outer = values.len();
+            let binds = judge_binds(alloc, ds, table, left, here, binds.as_slice(), values)?;
+            let value = judge(alloc, ds, table, left, here, value.get(), values)?;
+            values.leave(outer);
             Ok(judged(
                 e.at,
                 block_row(binds.kinds.as_slice(), value.kind),
-                value.fault,
+                least(binds.fault, value.fault),
             ))
         }
         Term::Apply(operator, parts) => {
-            let parts = judge_parts(alloc, ds, table, here, parts.as_slice(), values, best)?;
+            let parts = judge_parts(alloc, ds, table, left, here, parts.as_slice(), values)?;
             let kinds = all_kinds(alloc, parts.kinds.as_slice())?;
             Ok(judged(e.at, operands_row(*operator, &kinds), parts.fault))
         }
         Term::Over(a, _) => {
-            let a = judge(alloc, ds, table, here, a.get(), values, best)?;
+            let a = judge(alloc, ds, table, left, here, a.get(), values)?;
             Ok(judged(e.at, divided_row(a.kind), a.fault))
         }
         Term::Repeat(_, x, _, part) => {
-            let inner = with_value(alloc, values, *x, Some(Kind::Number))?;
-            let part = judge(alloc, ds, table, here, part.get(), inner.as_slice(), best)?;
+            let outer = values.len();
+            values.bind(*x, Some(Kind::Number))?;
+            let part = judge(alloc, ds, table, left, here, part.get(), values)?;
+            values.leave(outer);
             Ok(judged(e.at, sound_row(part.kind), part.fault))
         }
         Term::Nameless(place, part) => {
-            let part = judge(
-                alloc,
-                ds,
-                table,
-                here,
-                part.get(),
-                values,
-                lesser(best, *place),
-            )?;
-            Ok(judged(e.at, Judgement::Silent, part.fault))
+            let part = judge(alloc, ds, table, left, here, part.get(), values)?;
+            Ok(judged(e.at, Judgement::Silent, least(Some(*place), part.fault)))
         }
         Term::Warp(_, part) => {
-            let part = judge(alloc, ds, table, here, part.get(), values, best)?;
+            let part = judge(alloc, ds, table, left, here, part.get(), values)?;
             Ok(judged(e.at, sound_row(part.kind), part.fault))
         }
         Term::Rate(_, _, part) => {
-            let part = judge(alloc, ds, table, here, part.get(), values, best)?;
+            let part = judge(alloc, ds, table, left, here, part.get(), values)?;
             Ok(judged(e.at, sound_row(part.kind), part.fault))
         }
     }
 }
 
-/// The kinds of parts. Where functions are missing, those of all parts are told at once.
+/// The kinds of parts.
 #[cycle(judge)]
-#[tactic(auto, using(crate::proofs::Stack::all_append))]
 fn judge_parts(
     alloc: Global,
     ds: &[Declared],
-    table: &Table,
+    table: &mut Table,
+    left: u32,
     here: u32,
     parts: &[Part],
-    values: &[(NameId, Option<Kind>)],
-    best: Option<u32>,
+    values: &mut Scope<NameId, Option<Kind>>,
 ) -> Result<Parts, Stop>
     requires here { here ≤ length ds.now }
-    requires known { All (IsRight ds.now) table.now.entries.items }
-    ensures parts { IfOk result (λ p. record { kinds = p.kinds.items; fault = p.fault } ≡ several (map kind_of parts.now) (scope_of values.now ds.now here) [] best) }
+    requires known { All (IsRight ds.now) table.old.entries.items }
+    ensures parts { IfOk result (λ p. record { kinds = p.kinds.items; fault = p.fault } ≡ several (map kind_of parts.now) (scope_of values.old ds.now here)) }
     ensures missing { IfErr result (IsEarlier here) }
+    ensures known { All (IsRight ds.now) table.new.entries.items }
+    ensures same { OnOk result (values.new ≡ values.old) }
+    ensures kept { vec_len table.old.entries ≤ vec_len table.new.entries }
 {
     let mut kinds = Vec::new(alloc);
-    let mut fault = best;
-    let mut missing = Items::new(alloc);
-    let mut whole = true;
+    let mut fault = None;
     for part in parts {
-        match judge(alloc, ds, table, here, part, values, fault) {
-            Ok(found) => {
-                fault = found.fault;
-                kinds.push(found.kind)?;
-            }
-            Err(Stop::Missing(more)) => {
-                whole = false;
-                missing.append(more)?;
-            }
-            Err(Stop::OutOfMemory) => return Err(Stop::OutOfMemory),
-        }
+        let found = judge(alloc, ds, table, left, here, part, values)?;
+        fault = least(fault, found.fault);
+        kinds.push(found.kind)?;
     }
-    if whole {
-        Ok(Parts { kinds, fault })
-    } else {
-        Err(Stop::Missing(missing))
-    }
+    Ok(Parts { kinds, fault })
 }
 
+/// The kinds of a block's binds, each seen by those after it. Their names stay bound.
 #[cycle(judge)]
+#[tactic(auto, using(crate::proofs::Joined::of_names))]
 fn judge_binds(
     alloc: Global,
     ds: &[Declared],
-    table: &Table,
+    table: &mut Table,
+    left: u32,
     here: u32,
     binds: &[Bound],
-    values: &[(NameId, Option<Kind>)],
-    best: Option<u32>,
-) -> Result<Binds, Stop>
+    values: &mut Scope<NameId, Option<Kind>>,
+) -> Result<Parts, Stop>
     requires here { here ≤ length ds.now }
-    requires known { All (IsRight ds.now) table.now.entries.items }
-    ensures binds { IfOk result (λ b. record { values = b.values.items; kinds = b.kinds.items; fault = b.fault } ≡ several_binds (map kind_of_bind binds.now) (scope_of values.now ds.now here) [] best) }
+    requires known { All (IsRight ds.now) table.old.entries.items }
+    ensures binds { IfOk result (λ b. record { values = values.new; kinds = b.kinds.items; fault = b.fault } ≡ several_binds (map kind_of_bind binds.now) (scope_of values.old ds.now here)) }
     ensures missing { IfErr result (IsEarlier here) }
+    ensures known { All (IsRight ds.now) table.new.entries.items }
+    ensures outer { OnOk result (take (length values.old) values.new ≡ values.old) }
+    ensures kept { vec_len table.old.entries ≤ vec_len table.new.entries }
 {
-    let mut values = Vec::from_slice(alloc, values)?;
     let mut kinds = Vec::new(alloc);
-    let mut fault = best;
+    let mut fault = None;
     for bind in binds {
-        let found = judge(
-            alloc,
-            ds,
-            table,
-            here,
-            &bind.value,
-            values.as_slice(),
-            fault,
-        )?;
-        fault = found.fault;
-        values.push((bind.name, named_kind(found.kind)))?;
+        let found = judge(alloc, ds, table, left, here, &bind.value, values)?;
+        fault = least(fault, found.fault);
+        values.bind(bind.name, named_kind(found.kind))?;
         kinds.push(found.kind)?;
     }
-    Ok(Binds {
-        values,
-        kinds,
-        fault,
-    })
+    Ok(Parts { kinds, fault })
 }

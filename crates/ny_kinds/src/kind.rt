@@ -22,10 +22,18 @@ pub enum Judgement {
     Silent,
 }
 
-/// The kind of an expression, if it has one, and the least place of a refusal that was met.
+/// The kind of an expression, if it has one, and the least place of a refusal in it.
 #[derive(Clone, Copy, Debug, PartialEq, Eq)]
 pub struct Found {
     pub kind: Option<Kind>,
+    pub fault: Option<u32>,
+}
+
+/// What a call says, of the kinds of its arguments.
+#[derive(Clone, Copy, Debug, PartialEq, Eq)]
+pub struct Reached {
+    pub row: Judgement,
+    /// The least place of a refusal in the body that it reaches.
     pub fault: Option<u32>,
 }
 
@@ -42,15 +50,15 @@ pub struct Entry {
     pub number: u32,
     pub kinds: Items<Kind>,
     pub found: Found,
-    /// Where the entry before it for this function stands, counted from 1; or 0.
+    /// Where the entry before it in its list stands, counted from 1; or 0.
     pub earlier: usize,
 }
 
 /// Why an expression is not judged yet.
 #[derive(Debug, Drop)]
 pub enum Stop {
-    /// These functions are to be judged first.
-    Missing(Items<Use>),
+    /// This function is to be judged first, for these kinds.
+    Missing(Use),
     OutOfMemory,
 }
 

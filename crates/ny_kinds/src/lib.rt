@@ -6,6 +6,7 @@
 
 mod judging;
 mod kind;
+mod known;
 mod resolve;
 mod row;
 mod whole;

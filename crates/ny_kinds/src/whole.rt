@@ -2,10 +2,11 @@ ghost use Rattle.std.specs.Prelude.{◌≡◌, ◌<◌, ◌≤◌, ◌^◌, leng
 ghost use Rattle.ny_resolve.specs.declared.term.Declared.{Declared as DeclaredOf};
 ghost use Rattle.ny_kinds.specs.Kinds.{kind_of, scope_of};
 ghost use Rattle.ny_kinds.specs.Table.{IsRight};
-ghost use Rattle.ny_kinds.specs.Whole.{value_row, play_row, is_playable, value_kind, values_fault, play_kind, text_kind, channels_in};
+ghost use Rattle.ny_kinds.specs.Whole.{value_row, play_row, is_playable, value_kind, value_fault, values_fault, play_kind, text_kind, channels_in};
 
-use crate::judging::{Table, judged};
+use crate::judging::{judged, least};
 use crate::kind::{Found, Judgement, Kind};
+use crate::known::Table;
 use crate::resolve::root_kind;
 use ny_resolve::{Declared, Part};
 use std::alloc::{AllocError, Global};
@@ -46,17 +47,35 @@ fn value_kind(
     ds: &[Declared],
     table: &mut Table,
     here: u32,
-    best: Option<u32>,
 ) -> Result<Found, AllocError>
     requires few { length ds.now < 2 ^ 32 }
     requires here { here < length ds.now }
     requires known { All (IsRight ds.now) table.old.entries.items }
-    ensures found { (d : DeclaredOf) → IfOk result (λ f. f ≡ value_kind ds.now here (get_or ds.now here d) best) }
+    ensures found { (d : DeclaredOf) → IfOk result (λ f. f ≡ value_kind ds.now here (get_or ds.now here d)) }
     ensures known { All (IsRight ds.now) table.new.entries.items }
 {
     let d = &ds[here as usize];
-    let found = root_kind(alloc, ds, table, here, &d.body, best)?;
+    let found = root_kind(alloc, ds, table, here, &d.body)?;
     Ok(judged(d.body.at, value_row(found.kind), found.fault))
+}
+
+fn value_fault(
+    alloc: Global,
+    ds: &[Declared],
+    table: &mut Table,
+    here: u32,
+) -> Result<Option<u32>, AllocError>
+    requires few { length ds.now < 2 ^ 32 }
+    requires here { here < length ds.now }
+    requires known { All (IsRight ds.now) table.old.entries.items }
+    ensures fault { (d : DeclaredOf) → IfOk result (λ f. f ≡ value_fault ds.now here (get_or ds.now here d)) }
+    ensures known { All (IsRight ds.now) table.new.entries.items }
+{
+    if ds[here as usize].is_variable {
+        Ok(value_kind(alloc, ds, table, here)?.fault)
+    } else {
+        Ok(None)
+    }
 }
 
 fn values_fault(
@@ -66,16 +85,14 @@ fn values_fault(
 ) -> Result<Option<u32>, AllocError>
     requires few { length ds.now < 2 ^ 32 }
     requires known { All (IsRight ds.now) table.old.entries.items }
-    ensures fault { IfOk result (λ f. f ≡ values_fault ds.now 0 ds.now None) }
+    ensures fault { IfOk result (λ f. f ≡ values_fault ds.now 0 ds.now) }
     ensures known { All (IsRight ds.now) table.new.entries.items }
 {
-    let mut best = None;
+    let mut fault = None;
     for i in 0..ds.len() {
-        if ds[i].is_variable {
-            best = value_kind(alloc, ds, table, i as u32, best)?.fault;
-        }
+        fault = least(fault, value_fault(alloc, ds, table, i as u32)?);
     }
-    Ok(best)
+    Ok(fault)
 }
 
 fn play_kind(
@@ -83,19 +100,18 @@ fn play_kind(
     ds: &[Declared],
     table: &mut Table,
     play: &Option<Part>,
-    best: Option<u32>,
 ) -> Result<Found, AllocError>
     requires few { length ds.now < 2 ^ 32 }
     requires known { All (IsRight ds.now) table.old.entries.items }
-    ensures found { IfOk result (λ f. f ≡ play_kind ds.now play.now best) }
+    ensures found { IfOk result (λ f. f ≡ play_kind ds.now play.now) }
 {
     match play {
         None => Ok(Found {
             kind: None,
-            fault: best,
+            fault: None,
         }),
         Some(e) => {
-            let found = root_kind(alloc, ds, table, ds.len() as u32, e, best)?;
+            let found = root_kind(alloc, ds, table, ds.len() as u32, e)?;
             Ok(judged(e.at, play_row(found.kind), found.fault))
         }
     }
@@ -105,14 +121,16 @@ fn play_kind(
 /// and in the functions that these reach.
 #[tactic(auto, unfolding(crate::specs::Whole::text_kind))]
 pub fn text_kind(alloc: Global, ds: &[Declared], play: &Option<Part>) -> Result<Found, AllocError>
+    requires few { length ds.now < 2 ^ 32 }
     ensures { IfOk result (λ f. f ≡ text_kind ds.now play.now) }
 {
-    if ds.len() > 0xffff_ffff {
-        return Err(AllocError);
-    }
-    let mut table = Table::new(alloc, ds.len())?;
-    let best = values_fault(alloc, ds, &mut table)?;
-    play_kind(alloc, ds, &mut table, play, best)
+    let mut table = Table::new(alloc)?;
+    let fault = values_fault(alloc, ds, &mut table)?;
+    let found = play_kind(alloc, ds, &mut table, play)?;
+    Ok(Found {
+        kind: found.kind,
+        fault: least(fault, found.fault),
+    })
 }
 
 /// How many channels what is played has.

@@ -1,7 +1,11 @@
 -- Depths of names and declarations by what is kept of them.
-use Rattle.std.proofs.Common.{◌≡◌, ℕ, ◌+◌, max, Bool, true, false, List, [], ◌∷◌, ◌++◌, map, get_or, take, length, ◌<◌, nat_eq, refl, sym, ap, ◌∙◌, arith}
+use Rattle.std.proofs.Common.{◌≡◌, reverse, Some, cond, ℕ, ◌+◌, max, Bool, true, false, List, [], ◌∷◌, ◌++◌, map, get_or, take, length, ◌<◌, refl, sym, ap, ◌∙◌, arith}
 use Rattle.std.specs.Prelude.{if◌then◌else◌}
-use Rattle.std.proofs.lemmas.List.{take_more}
+use Rattle.std.specs.Option.{unwrap_or}
+use Rattle.std.specs.Map.{lookup}
+use Rattle.std.proofs.lemmas.List.{take_more, reverse-append}
+use Rattle.ny_scope.proofs.Kept.{kept_more, kept_all}
+use Rattle.ny_resolve.specs.Keys.{same_name}
 use Rattle.ny_resolve.specs.declared.term.Term.TheFolds.{fold-roll-Term, fold_out-Part, fold_out-Bound}
 use Rattle.ny_resolve.specs.declared.term.Term.TheOpen.{Term-F}
 use Rattle.ny_resolve.specs.declared.term.Term.TheVariants as term
@@ -12,37 +16,48 @@ use Rattle.ny_resolve.specs.declared.term.Bound.{Bound}
 use Rattle.ny_resolve.specs.declared.term.Declared.{Declared}
 use Rattle.ny_resolve.specs.declared.builtin.Order.{Order}
 use Rattle.ny_measures.specs.Counts.{capped, all_capped, names_capped}
-use Rattle.ny_measures.specs.Depth.{Scope, Deep, DeepBind, term_depth, bound_depth, part_depth, depth_of, depth_of_bind, scope_of, with_value, greatest, binds_depth, names_after, last_of, depths_after, body_depth, values_depth}
+use Rattle.ny_measures.specs.Depth.{Scope, Deep, DeepBind, term_depth, bound_depth, part_depth, depth_of, depth_of_bind, scope_of, with_value, greatest, binds_depth, names_after, value_of, depths_after, body_depth, values_depth}
 use Rattle.ny_measures.specs.Weight.{weights_after, weight_of, values_weight}
 use Rattle.ny_measures.proofs.Capped.{known_capped}
-
-pub last_capped : (o : ℕ) (x : NameId) (vs : List (NameId × ℕ)) → last_of (capped o) x (names_capped vs) ≡ capped (last_of o x vs)
-last_capped o x [] = refl
-last_capped o x (v ∷ vs) = ap (λ (n : ℕ). last_of n x (names_capped vs)) (by (nat_eq v.0.0 x.0)) ∙ last_capped (if nat_eq v.0.0 x.0 then v.1 else o) x vs
-  where
-    by : (b : Bool) → (if b then capped v.1 else capped o) ≡ capped (if b then v.1 else o)
-    by true = refl
-    by false = refl
 
 pub names_capped-push : (vs : List (NameId × ℕ)) (x : NameId) (n : ℕ) → names_capped (vs ++ (x, n) ∷ []) ≡ names_capped vs ++ (x, capped n) ∷ []
 names_capped-push [] x n = refl
 names_capped-push (v ∷ vs) x n = ap (λ (w : List (NameId × ℕ)). (v.0, capped v.1) ∷ w) (names_capped-push vs x n)
 
+names_capped-reverse : (vs : List (NameId × ℕ)) → reverse (names_capped vs) ≡ names_capped (reverse vs)
+names_capped-reverse [] = refl
+names_capped-reverse (v ∷ vs) =
+    reverse-append ((v.0, capped v.1) ∷ []) (names_capped vs)
+    ∙ ap (λ (w : List (NameId × ℕ)). w ++ (v.0, capped v.1) ∷ []) (names_capped-reverse vs)
+    ∙ sym (names_capped-push (reverse vs) v.0 v.1)
+    ∙ ap names_capped (sym (reverse-append (v ∷ []) vs))
+
+found_capped : (x : NameId) (vs : List (NameId × ℕ)) → unwrap_or (lookup (same_name x) (names_capped vs)) 0 ≡ capped (unwrap_or (lookup (same_name x) vs) 0)
+found_capped x [] = refl
+found_capped x (v ∷ vs) = by (same_name x v.0) (found_capped x vs)
+  where
+    by : (b : Bool) → unwrap_or (lookup (same_name x) (names_capped vs)) 0 ≡ capped (unwrap_or (lookup (same_name x) vs) 0) → unwrap_or (cond b (Some (capped v.1)) (lookup (same_name x) (names_capped vs))) 0 ≡ capped (unwrap_or (cond b (Some v.1) (lookup (same_name x) vs)) 0)
+    by true h = refl
+    by false h = h
+
+pub value_capped : (x : NameId) (vs : List (NameId × ℕ)) → value_of x (names_capped vs) ≡ capped (value_of x vs)
+value_capped x vs = ap (λ (w : List (NameId × ℕ)). unwrap_or (lookup (same_name x) w) 0) (names_capped-reverse vs) ∙ found_capped x (reverse vs)
+
 pub all_capped-push : (ns : List ℕ) (n : ℕ) → all_capped (ns ++ n ∷ []) ≡ all_capped ns ++ capped n ∷ []
 all_capped-push [] n = refl
 all_capped-push (m ∷ ns) n = ap (λ (w : List ℕ). capped m ∷ w) (all_capped-push ns n)
 
-pub ruleset by_form = (last_capped, names_capped-push, known_capped)
+pub ruleset by_form = (value_capped, kept_all, names_capped-push, known_capped)
 
 -- ---- the arms
 
-depth-Local : (e : Part) (x : NameId) (s : Scope) → e.term ≡ term.Local x → depth_of e s ≡ max 1 (last_of 0 x s.values)
+depth-Local : (e : Part) (x : NameId) (s : Scope) → e.term ≡ term.Local x → depth_of e s ≡ max 1 (value_of x s.values)
 depth-Local e x s is = rw (fold_out-Part Deep DeepBind Deep term_depth bound_depth part_depth e, is, ← rolls-Local x, fold-roll-Term Deep DeepBind Deep term_depth bound_depth part_depth (Term-F.Local x))
 
-pub arm-Local : (e : Part) (x : NameId) (vs values : List (NameId × ℕ)) (ds : List ℕ) (l n : ℕ) → e.term ≡ term.Local x → values ≡ names_capped vs → l ≡ last_of 0 x values → n ≡ max l 1 → n ≡ capped (depth_of e (scope_of vs ds))
+pub arm-Local : (e : Part) (x : NameId) (vs values : List (NameId × ℕ)) (ds : List ℕ) (l n : ℕ) → e.term ≡ term.Local x → values ≡ names_capped vs → l ≡ value_of x values → n ≡ max l 1 → n ≡ capped (depth_of e (scope_of vs ds))
 arm-Local e x vs values ds l n is h p q =
-    let last : l ≡ capped (last_of 0 x vs) = p ∙ ap (last_of 0 x) h ∙ last_capped 0 x vs in
-    rw (depth-Local e x (scope_of vs ds) is) (greater (last_of 0 x vs) last)
+    let last : l ≡ capped (value_of x vs) = p ∙ ap (value_of x) h ∙ value_capped x vs in
+    rw (depth-Local e x (scope_of vs ds) is) (greater (value_of x vs) last)
   where
     greater : (m : ℕ) → l ≡ capped m → n ≡ capped (max 1 m)
     greater m k = omega arith

@@ -1,5 +1,8 @@
 -- The depth of an expression: how deep it is where each call is replaced by the function's body and each name by what it stands for.
-use Rattle.std.specs.Prelude.{ℕ, ◌+◌, max, if◌then◌else◌, List, [], ◌∷◌, ◌++◌, get_or, nat_eq, Option, Some, None}
+use Rattle.std.specs.Prelude.{ℕ, ◌+◌, max, if◌then◌else◌, List, [], ◌∷◌, ◌++◌, get_or, Option, Some, None}
+use Rattle.std.specs.Option.{unwrap_or}
+use Rattle.ny_scope.specs.Scopes.{last_of}
+use Rattle.ny_resolve.specs.Keys.{same_name}
 use Rattle.ny_resolve.specs.declared.term.NameId.{NameId}
 use Rattle.ny_resolve.specs.declared.term.Term.TheFolds.{fold-Part, fold-Bound}
 use Rattle.ny_resolve.specs.declared.term.Term.TheOpen.{Term-F, Part-F, Bound-F}
@@ -19,10 +22,9 @@ pub record DeepBind : Type 0 where
   pub name : NameId
   pub value : Deep
 
--- what the last pair of a name says
-abbrev pub last_of : ℕ → NameId → List (NameId × ℕ) → ℕ
-last_of found x [] = found
-last_of found x (b ∷ bs) = last_of (if nat_eq b.0.0 x.0 then b.1 else found) x bs
+-- the depth that a name is given, and 0 where it is given none
+abbrev pub value_of : NameId → List (NameId × ℕ) → ℕ
+value_of x values = unwrap_or (last_of (same_name x) values) 0
 
 abbrev pub with_value : NameId → ℕ → Scope → Scope
 with_value x n s = record { values = s.values ++ (x, n) ∷ []; declared = s.declared }
@@ -44,7 +46,7 @@ binds_depth (b ∷ bs) s = max (b.value s) (binds_depth bs (with_value b.name (b
 -- parameters, counters and global variables are given 0; a literal beside an operand has depth 1
 abbrev pub term_depth : Term-F Deep DeepBind Deep → Deep
 term_depth (Term-F.Number v) s = 1
-term_depth (Term-F.Local x) s = max 1 (last_of 0 x s.values)
+term_depth (Term-F.Local x) s = max 1 (value_of x s.values)
 term_depth (Term-F.Global n) s = 1
 term_depth (Term-F.Call n es) s = 1 + greatest es s + get_or s.declared n 0
 term_depth (Term-F.Block bs e) s = 1 + max (binds_depth bs s) (e (record { values = names_after bs s; declared = s.declared }))

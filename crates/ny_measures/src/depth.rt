@@ -1,92 +1,66 @@
-ghost use Rattle.std.specs.Prelude.{◌≡◌, ◌≤◌, ◌+◌, ◌^◌, ◌++◌, ◌∷◌, max, List, ℕ, map, IfOk, []};
+ghost use Rattle.std.specs.Prelude.{◌≡◌, ◌≤◌, ◌+◌, ◌^◌, ◌++◌, ◌∷◌, max, List, ℕ, map, length, take, IfOk, OnOk, []};
 ghost use Rattle.ny_resolve.specs.declared.term.NameId.{NameId as NameOf};
 ghost use Rattle.ny_measures.specs.Counts.{capped, all_capped, names_capped};
-ghost use Rattle.ny_measures.specs.Depth.{depth_of, depth_of_bind, scope_of, greatest, binds_depth, names_after, last_of, body_depth, depths_after, values_depth, play_depth, text_depth};
+ghost use Rattle.ny_measures.specs.Depth.{depth_of, depth_of_bind, scope_of, greatest, binds_depth, names_after, value_of, body_depth, depths_after, values_depth, play_depth, text_depth};
 
 use crate::count::{known_of, sum, value_count};
 use ny_resolve::{Bound, Declared, NameId, Part, Term};
+use ny_scope::Scope;
 use std::alloc::{AllocError, Global};
 
-fn last_depth(values: &[(NameId, u64)], x: NameId) -> u64
-    ensures { result ≡ last_of 0 x values.now }
+fn value_of(values: &Scope<NameId, u64>, x: NameId) -> u64
+    ensures { result ≡ value_of x values.now }
 {
-    let mut found = 0;
-    for (name, depth) in values {
-        if name.0 == x.0 {
-            found = *depth;
-        }
-    }
-    found
-}
-
-/// Names with the depths that they are given, and one more.
-fn with_value(
-    alloc: Global,
-    values: &[(NameId, u64)],
-    name: NameId,
-    depth: u64,
-) -> Result<Vec<(NameId, u64)>, AllocError>
-    ensures { IfOk result (λ all. all.items ≡ values.now ++ (name, depth) ∷ []) }
-{
-    let mut all = Vec::from_slice(alloc, values)?;
-    all.push((name, depth))?;
-    Ok(all)
-}
-
-/// The greatest depth of a block's binds, and the names after them.
-#[derive(Debug, Drop)]
-struct Binds {
-    values: Vec<(NameId, u64)>,
-    depth: u64,
+    values.find(&x).unwrap_or(0)
 }
 
 /// The depth of an expression, of the depths of local names and of the declarations before it.
 #[cycle(depth)]
 #[tactic(auto, using(crate::proofs::Depths::by_form))]
-fn depth(
-    alloc: Global,
-    values: &[(NameId, u64)],
-    known: &[u64],
-    e: &Part,
-) -> Result<u64, AllocError>
-    ensures value { (vs : List (NameOf × ℕ)) → (ds : List ℕ) → values.now ≡ names_capped vs → known.now ≡ all_capped ds → IfOk result (λ n. n ≡ capped (depth_of e.now (scope_of vs ds))) }
+fn depth(values: &mut Scope<NameId, u64>, known: &[u64], e: &Part) -> Result<u64, AllocError>
+    ensures value { (vs : List (NameOf × ℕ)) → (ds : List ℕ) → values.old ≡ names_capped vs → known.now ≡ all_capped ds → IfOk result (λ n. n ≡ capped (depth_of e.now (scope_of vs ds))) }
+    ensures same { OnOk result (values.new ≡ values.old) }
 {
     match &e.term {
         Term::Number(_) => Ok(1),
-        Term::Local(x) => Ok(last_depth(values, *x).max(1)),
+        Term::Local(x) => Ok(value_of(values, *x).max(1)),
         Term::Global(_) => Ok(1),
         Term::Call(number, parts) => {
-            let arguments = parts_depth(alloc, values, known, parts.as_slice())?;
+            let arguments = parts_depth(values, known, parts.as_slice())?;
             Ok(sum(sum(1, arguments), known_of(known, *number as usize)))
         }
         Term::Block(binds, value) => {
-            let binds = binds_depth(alloc, values, known, binds.as_slice())?;
-            let value = depth(alloc, binds.values.as_slice(), known, value.get())?;
-            Ok(sum(1, binds.depth.max(value)))
+            let outer = values.len();
+            let binds = binds_depth(values, known, binds.as_slice())?;
+            let value = depth(values, known, value.get())?;
+            values.leave(outer);
+            Ok(sum(1, binds.max(value)))
         }
         Term::Apply(_, parts) => {
-            let parts = parts_depth(alloc, values, known, parts.as_slice())?;
+            let parts = parts_depth(values, known, parts.as_slice())?;
             Ok(sum(1, parts))
         }
         Term::Over(a, _) => {
-            let a = depth(alloc, values, known, a.get())?;
+            let a = depth(values, known, a.get())?;
             Ok(sum(1, a.max(1)))
         }
         Term::Repeat(_, x, _, part) => {
-            let inner = with_value(alloc, values, *x, 0)?;
-            let part = depth(alloc, inner.as_slice(), known, part.get())?;
+            let outer = values.len();
+            values.bind(*x, 0)?;
+            let part = depth(values, known, part.get())?;
+            values.leave(outer);
             Ok(sum(1, part.max(1)))
         }
         Term::Nameless(_, part) => {
-            let part = depth(alloc, values, known, part.get())?;
+            let part = depth(values, known, part.get())?;
             Ok(sum(1, part))
         }
         Term::Warp(_, part) => {
-            let part = depth(alloc, values, known, part.get())?;
+            let part = depth(values, known, part.get())?;
             Ok(sum(1, part.max(1)))
         }
         Term::Rate(_, _, part) => {
-            let part = depth(alloc, values, known, part.get())?;
+            let part = depth(values, known, part.get())?;
             Ok(sum(1, part.max(1)))
         }
     }
@@ -94,51 +68,49 @@ fn depth(
 
 #[cycle(depth)]
 fn parts_depth(
-    alloc: Global,
-    values: &[(NameId, u64)],
+    values: &mut Scope<NameId, u64>,
     known: &[u64],
     parts: &[Part],
 ) -> Result<u64, AllocError>
-    ensures value { (vs : List (NameOf × ℕ)) → (ds : List ℕ) → values.now ≡ names_capped vs → known.now ≡ all_capped ds → IfOk result (λ n. n ≡ capped (greatest (map depth_of parts.now) (scope_of vs ds))) }
+    ensures value { (vs : List (NameOf × ℕ)) → (ds : List ℕ) → values.old ≡ names_capped vs → known.now ≡ all_capped ds → IfOk result (λ n. n ≡ capped (greatest (map depth_of parts.now) (scope_of vs ds))) }
+    ensures same { OnOk result (values.new ≡ values.old) }
 {
     let mut most = 0;
     for part in parts {
-        let depth = depth(alloc, values, known, part)?;
+        let depth = depth(values, known, part)?;
         most = depth.max(most);
     }
     Ok(most)
 }
 
+/// The greatest depth of binds, whose names stay bound.
 #[cycle(depth)]
 fn binds_depth(
-    alloc: Global,
-    values: &[(NameId, u64)],
+    values: &mut Scope<NameId, u64>,
     known: &[u64],
     binds: &[Bound],
-) -> Result<Binds, AllocError>
-    ensures value { (vs : List (NameOf × ℕ)) → (ds : List ℕ) → values.now ≡ names_capped vs → known.now ≡ all_capped ds →
-        IfOk result (λ b. (b.values.items ≡ names_capped (names_after (map depth_of_bind binds.now) (scope_of vs ds))) × (b.depth ≡ capped (binds_depth (map depth_of_bind binds.now) (scope_of vs ds)))) }
+) -> Result<u64, AllocError>
+    ensures value { (vs : List (NameOf × ℕ)) → (ds : List ℕ) → values.old ≡ names_capped vs → known.now ≡ all_capped ds →
+        IfOk result (λ n. (values.new ≡ names_capped (names_after (map depth_of_bind binds.now) (scope_of vs ds))) × (n ≡ capped (binds_depth (map depth_of_bind binds.now) (scope_of vs ds)))) }
+    ensures kept { OnOk result (take (length values.old) values.new ≡ values.old) }
 {
-    let mut values = Vec::from_slice(alloc, values)?;
     let mut most = 0;
     for bind in binds {
-        let depth = depth(alloc, values.as_slice(), known, &bind.value)?;
+        let depth = depth(values, known, &bind.value)?;
         most = depth.max(most);
-        values.push((bind.name, depth))?;
+        values.bind(bind.name, depth)?;
     }
-    Ok(Binds {
-        values,
-        depth: most,
-    })
+    Ok(most)
 }
 
 /// The depths of all declarations.
 fn depths(alloc: Global, ds: &[Declared]) -> Result<Vec<u64>, AllocError>
     ensures { IfOk result (λ known. known.items ≡ all_capped (depths_after [] ds.now)) }
 {
+    let mut values = Scope::new(alloc);
     let mut known = Vec::new(alloc);
     for d in ds {
-        let depth = depth(alloc, &[], known.as_slice(), &d.body)?;
+        let depth = depth(&mut values, known.as_slice(), &d.body)?;
         known.push(depth)?;
     }
     Ok(known)
@@ -159,7 +131,10 @@ fn play_depth(alloc: Global, play: &Option<Part>, known: &[u64]) -> Result<u64, 
 {
     match play {
         None => Ok(0),
-        Some(e) => depth(alloc, &[], known, e),
+        Some(e) => {
+            let mut values = Scope::new(alloc);
+            depth(&mut values, known, e)
+        }
     }
 }
 

@@ -3,3 +3,12 @@ pub mod Digits
 pub mod Places
 pub mod Points
 pub mod WholeDigits
+pub mod WorkedRows
+pub mod SoundTimings
+pub mod WrittenLists
+pub mod Quotients
+pub mod Lifted
+pub mod TimingBounds
+pub mod Shares
+pub mod Weights
+pub mod RateLaws

@@ -2,3 +2,8 @@ pub mod Numbers
 pub mod Grid
 pub mod Decimal
 pub mod Sound
+pub mod Leaves
+pub mod Pointwise
+pub mod Resampling
+pub mod Filters
+pub mod Mix

@@ -1,10 +1,16 @@
-ghost use Rattle.std.specs.Prelude.{◌≡◌};
-ghost use Rattle.ny_num.specs.Numbers.{IsSample, sat_sample, sample_add, sample_sub, sample_mul, sample_max, sample_min, sample_abs};
+ghost use Rattle.std.specs.Prelude.{◌≡◌, pos, neg_ℤ, ◌*◌, ◌*ℤ◌, ◌≤ℤ◌};
+ghost use Rattle.ny_num.specs.Numbers.{IsSample, sat_sample, sample_add, sample_sub, sample_mul, sample_max, sample_min, sample_abs, floor_div, million};
 
 use crate::fix::Fix;
 use std::marker::Model;
 
 const LIMIT: i64 = 2_147_483_647;
+
+/// One, in millionths.
+const UNIT: i64 = 1_000_000;
+
+/// So many units are more than any product of two samples in millionths.
+const LIFT: i64 = 4_611_686_014_133;
 
 /// A sample: whole millionths from -2147483647 to 2147483647. Each operation is exact and then
 /// clamped once (`docs/DEFINITIONS.md`, "Numbers").
@@ -24,6 +30,29 @@ impl Model for Sample {
     ghost invariant = { λ s. IsSample s.micro };
 
     ghost inverse = { λ z. record { micro = z } };
+}
+
+// The exact product of two samples.
+fn product(a: i32, b: i32) -> i64
+    requires a { IsSample a }
+    requires b { IsSample b }
+    ensures value { result ≡ a *ℤ b }
+    ensures low { neg_ℤ (pos (4611686014133 * 1000000)) ≤ℤ result }
+    ensures high { result ≤ℤ pos (4611686014133 * 1000000) }
+{
+    i64::from(a) * i64::from(b)
+}
+
+// The whole units of a product, rounded down. The product is lifted above 0, where a quotient is
+// rounded down without a test of its sign.
+#[tactic(auto, using(crate::proofs::Lifted::lifted_floor))]
+fn floor_of_units(product: i64) -> i64
+    requires low { neg_ℤ (pos (4611686014133 * 1000000)) ≤ℤ product }
+    requires high { product ≤ℤ pos (4611686014133 * 1000000) }
+    ensures { result ≡ floor_div product million }
+{
+    let lifted = (product + LIFT * UNIT) as u64 / UNIT as u64;
+    lifted as i64 - LIFT
 }
 
 impl Sample {
@@ -76,8 +105,7 @@ impl Sample {
     pub fn mul(self, b: Sample) -> Sample
         ensures { result ≡ sample_mul self b }
     {
-        let product = i64::from(self.micro) * i64::from(b.micro);
-        Sample::of(product.div_euclid(1_000_000))
+        Sample::of(floor_of_units(product(self.micro, b.micro)))
     }
 
     /// The greater of the two.

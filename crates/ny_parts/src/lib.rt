@@ -9,7 +9,17 @@ mod canonical;
 #[cfg(test)]
 mod engines;
 #[cfg(test)]
+mod kernels;
+#[cfg(test)]
+mod leaves;
+#[cfg(test)]
+mod lists;
+#[cfg(test)]
+mod names;
+#[cfg(test)]
 mod numbers;
+#[cfg(test)]
+mod sounds;
 #[cfg(test)]
 mod tokens;
 #[cfg(test)]

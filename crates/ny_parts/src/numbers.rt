@@ -1,5 +1,5 @@
 use ny_num::{Fix, NumFault, Rate, Ticks, index, read_decimal, ticks_of, write_decimal};
-use ny_report::refusal_line;
+use ny_report::{full_line, refusal_line};
 use std::test::Fail;
 
 #[test]
@@ -64,5 +64,17 @@ fn lines_of_refusals(rt: HostRuntime) -> Result<(), Fail> {
     );
     let line = refusal_line(rt.alloc(), "parse", 1_048_576, "")?;
     assert_eq!(rt; line.as_slice(), b"refused: parse 1048576\n".as_slice());
+    Ok(())
+}
+
+#[test]
+fn lines_of_full_pools(rt: HostRuntime) -> Result<(), Fail> {
+    let none = full_line(rt.alloc(), 0)?;
+    assert_eq!(rt; none.as_slice(), b"pool full after 0 pulls\n".as_slice());
+    let most = full_line(rt.alloc(), u64::MAX)?;
+    assert_eq!(rt;
+        most.as_slice(),
+        b"pool full after 18446744073709551615 pulls\n".as_slice()
+    );
     Ok(())
 }

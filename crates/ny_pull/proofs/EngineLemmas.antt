@@ -1,9 +1,9 @@
 -- What a pull of an engine's one channel does to the state that contracts see.
-use Rattle.std.proofs.Common.{◌≡◌, ℕ, ◌+◌, ◌*◌, ◌<◌, Bool, true, false, nat_lt, if◌then◌else◌, List, [], ◌∷◌, ◌++◌, length, take, drop, slice_get, slice_set, Option, None, Some, is_none, IsTrue, not, Result, Ok, Err, OnOk, OnErr, is_err, refl, sym, ap, subst, ◌∙◌, arith, ℤ, length-take, length-drop}
+use Rattle.std.proofs.Common.{◌≡◌, ℕ, ◌+◌, ◌*◌, ◌<◌, ◌≤◌, Bool, true, false, nat_lt, if◌then◌else◌, List, [], ◌∷◌, ◌++◌, length, take, drop, slice_get, slice_set, Option, None, Some, is_none, IsTrue, not, Result, Ok, Err, OnOk, OnErr, is_err, refl, sym, ap, subst, ◌∙◌, arith, ℤ, length-take, length-drop}
 use Rattle.std.proofs.lemmas.Bool.{lt-ltb}
 use Rattle.std.specs.Option.{option_map}
 use Rattle.ny_num.specs.declared.rate.Rate.{Rate}
-use Rattle.ny_heap.specs.Heap.{HeapState, list_of, place_of, open_unit, free_of}
+use Rattle.ny_heap.specs.Heap.{HeapState, list_of, place_of, open_unit, live_of, free_of}
 use Rattle.ny_heap.specs.Means.{Parts, Whole, Means, KeepsMeaning, sound_in}
 use Rattle.ny_heap.specs.Reach.{HeapLaws, IsTrimmed}
 use Rattle.ny_heap.specs.Steps.{Passes, advanced}
@@ -13,12 +13,12 @@ use Rattle.ny_pull.specs.declared.fault.PullFault.{PullFault}
 use Rattle.ny_pull.specs.declared.fault.PullFault.TheVariants.{PoolFull}
 use Rattle.ny_pull.specs.Channel.{channel_of}
 use Rattle.ny_pull.specs.Order.{FillsInOrder, StopsInOrder}
-use Rattle.ny_pull.specs.Engine.{EngineState, channel_at, passed_of, next_block, HasEnded, with_pull, SamePiece, GivesBlock, StopsAtFull}
+use Rattle.ny_pull.specs.Engine.{EngineState, channel_at, passed_of, next_block, HasEnded, with_pull, SamePiece, GivesBlock, StopsAtFull, full_of}
 use Rattle.ny_pull.specs.Playing.{IsPlaying}
 use Rattle.ny_pull.specs.Inside.{IsEngineInside}
 use Rattle.ny_pull.specs.Below.{ComesFrom, IsSettled, IsRank, Below}
 use Rattle.ny_pull.proofs.BelowLemmas.{some_same}
-use Rattle.ny_pull.proofs.PlayLemmas.{ended_of, open_of, stopped, stopped_size}
+use Rattle.ny_pull.proofs.PlayLemmas.{ended_of, open_of, stopped}
 
 -- the state of an engine of one channel
 abbrev pub state : List Term → Rate → Sound → ℕ → Option PullFault → HeapState (Unit {0}) → EngineState
@@ -49,18 +49,27 @@ at_done (Err x) P e p = absurd (never e)
 pub none_spent : (o : Option PullFault) (fault : PullFault) → o ≡ None → o ≡ Some fault → ⊥
 none_spent o fault p q = cc
 
+-- where no block is free all are taken
+pub all_taken : (h : HeapState (Unit {0})) (live : ℕ) → live ≡ live_of h → live ≤ h.pool → free_of h ≡ 0 → live ≡ h.pool
+all_taken h live counted within full = omega (arith, counted, within, full)
+
 -- a fault spends the engine
-pub spends : (terms : List Term) (h new : HeapState (Unit {0})) (s : Sound) (pulls pool : ℕ) (spent : Option PullFault) (u : ℕ) → IsEngineInside terms h s pulls pool spent → open_unit h (list_of s) ≡ Some u → HeapLaws new → IsSettled new → ((rank : ℕ → ℕ) → IsRank h rank → Below h new rank (rank u)) → ComesFrom h new → KeepsMeaning h new → free_of new ≡ 0 → IsEngineInside terms new s pulls pool (Some (PoolFull pulls pool))
-spends terms h new s pulls pool spent u inside e laws settled below comes keeps full =
+pub spends : (terms : List Term) (h new : HeapState (Unit {0})) (s : Sound) (pulls live : ℕ) (spent : Option PullFault) (u : ℕ) → IsEngineInside terms h s pulls spent → open_unit h (list_of s) ≡ Some u → HeapLaws new → IsSettled new → ((rank : ℕ → ℕ) → IsRank h rank → Below h new rank (rank u)) → ComesFrom h new → KeepsMeaning h new → live ≡ live_of new → live ≡ new.pool → IsEngineInside terms new s pulls (Some (PoolFull pulls live))
+spends terms h new s pulls live spent u inside e laws settled below comes keeps counted full =
     let list = (open_of h s (channel_of terms) pulls (2 * length terms) u inside.playing e).list in
-    let size = stopped_size h new s (channel_of terms) pulls (2 * length terms) u inside.playing list below in
-    let now : pool ≡ new.pool = inside.size ∙ sym size.0 in
     record {
-      size = now;
       few = inside.few;
       playing = stopped h new s (channel_of terms) pulls (2 * length terms) u inside.playing list laws settled below comes keeps;
-      full = λ fault is. (sym (some_same (PoolFull pulls pool) fault is) ∙ ap (PoolFull pulls) now, full);
+      full = λ fault is. (sym (some_same (PoolFull pulls live) fault is) ∙ ap (PoolFull pulls) full, sym counted ∙ full);
     }
+
+-- the fault of an engine with all blocks taken
+pub full_now : (terms : List Term) (rate : Rate) (s : Sound) (pulls : ℕ) (spent : Option PullFault) (h : HeapState (Unit {0})) (e : EngineState) → state terms rate s pulls spent h ≡ e → (live : ℕ) (new : HeapState (Unit {0})) → live ≡ new.pool → new.pool ≡ h.pool → live ≡ live_of new → (PoolFull pulls live ≡ full_of e) × (live_of new ≡ new.pool)
+full_now terms rate s pulls spent h e is live new all size counted =
+    (ap (PoolFull pulls) (all ∙ size) ∙ whole ∙ ap full_of is, sym counted ∙ all)
+  where
+    whole : PoolFull pulls h.pool ≡ full_of (state terms rate s pulls spent h)
+    whole = ap (λ n. PoolFull n h.pool) (omega arith)
 
 -- what is read, whatever the waiting parts are
 pub read_gives : (h : HeapState (Unit {0})) (s : Sound) (xs : List ℤ) (pulls filled left n : ℕ) (before after : List ℤ) → IsPlaying h s xs pulls filled left → ((part : Parts (Unit {0})) (w : Whole) → Means part h w → after ≡ take n (drop (place_of s) (sound_in w.samples (list_of s) s.timing).samples) ++ drop n before) → after ≡ take n (drop (place_of s) xs) ++ drop n before

@@ -234,9 +234,8 @@ one_more h s terms term i rate before same is within some so =
 
 -- ---- the engine
 
-pub begins_inside : (h : HeapState (Unit {0})) (s : Sound) (terms : List Term) (pool : ℕ) → length terms ≤ 100 → 1 ≤ length terms → h.pool ≡ pool → IsPlaying h s (channel_of terms) 0 0 (2 * length terms - 1 + 1) → IsEngineInside terms h s 0 pool None
-begins_inside h s terms pool few some size playing = record {
-  size = sym size;
+pub begins_inside : (h : HeapState (Unit {0})) (s : Sound) (terms : List Term) → length terms ≤ 100 → 1 ≤ length terms → IsPlaying h s (channel_of terms) 0 0 (2 * length terms - 1 + 1) → IsEngineInside terms h s 0 None
+begins_inside h s terms few some playing = record {
   few = few;
   playing = let height : 2 * length terms - 1 + 1 ≡ 2 * length terms = omega arith in subst (λ n. IsPlaying h s (channel_of terms) 0 0 n) height playing;
   full = λ fault is. absurd (none_some None fault refl is);

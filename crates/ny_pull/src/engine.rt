@@ -1,7 +1,7 @@
 ghost use Rattle.std.specs.Prelude.{◌≡◌, ℕ, ◌<◌, ◌≤◌, ◌↔◌, ◌++◌, [], ◌∷◌, ◌⊎◌, nat_lt, if◌then◌else◌, IsTrue, None, Some, Ok, Err, IfSome, IfOk, IfErr, OnOk, OnErr, length, drop, sum};
 ghost use Rattle.ny_num.specs.Grid.{last_index};
 ghost use Rattle.ny_pull.specs.Channel.{longest};
-ghost use Rattle.ny_heap.specs.Heap.{live_of, free_of};
+ghost use Rattle.ny_heap.specs.Heap.{live_of};
 ghost use Rattle.ny_heap.specs.Reach.{HeapLaws};
 ghost use Rattle.ny_pull.specs.Engine.{EngineState, channel_at, next_block, HasEnded, IsReadByChannels, with_pull, SamePiece, GivesBlock, StopsAtFull, full_of};
 
@@ -23,8 +23,6 @@ pub struct Engine {
     // What is still to be pulled.
     channel: Sound,
     pulls: u64,
-    // How many blocks the pool has.
-    pool: u32,
     spent: Option<PullFault>,
 }
 
@@ -38,7 +36,7 @@ impl Model for Engine {
 
     ghost view = { λ e. record { terms = e.terms.items; rate = e.rate; channels = e.channel ∷ []; pulled = e.pulls ∷ []; spent = e.spent; heap = e.heap } };
 
-    ghost invariant = { λ e. IsEngineInside e.terms.items e.heap e.channel e.pulls e.pool e.spent };
+    ghost invariant = { λ e. IsEngineInside e.terms.items e.heap e.channel e.pulls e.spent };
 }
 
 impl Engine {
@@ -73,7 +71,6 @@ impl Engine {
             heap,
             channel,
             pulls: 0,
-            pool,
             spent: None,
         })
     }
@@ -126,7 +123,7 @@ impl Engine {
         ensures gives { IfOk result (λ n. HasEnded self.old c ⊎ GivesBlock self.old self.new c n) }
         ensures nothing { OnErr result ((out.new ≡ out.old) × (self.new.pulled ≡ self.old.pulled)) }
         ensures spent { IfErr result (λ fault. self.new.spent ≡ Some fault) }
-        ensures full { IfErr result (λ fault. (fault ≡ full_of self.old) × (free_of self.new.heap ≡ 0)) }
+        ensures full { IfErr result (λ fault. (fault ≡ full_of self.old) × (live_of self.new.heap ≡ self.new.heap.pool)) }
         ensures stops { OnErr result (self.old.spent ≡ None → StopsAtFull self.old self.new c) }
         ensures same { SamePiece self.old self.new }
         ensures laws { HeapLaws self.new.heap }
@@ -140,7 +137,7 @@ impl Engine {
         if drive_within(&mut self.heap, unit, 2 * self.terms.len() as u32).is_err() {
             let fault = PullFault::PoolFull {
                 pulls: self.pulls,
-                live: self.pool,
+                live: self.heap.live(),
             };
             self.spent = Some(fault);
             return Err(fault);

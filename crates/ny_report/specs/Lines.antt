@@ -17,3 +17,7 @@ further_part (byte ∷ bytes) = codes " " ++ byte ∷ bytes
 -- the line of a refused text: the stage that refused it, the place of the fault, and why where that is said
 unfoldable pub refusal_line_of : List ℕ → ℕ → List ℕ → List ℕ
 refusal_line_of stage at why = line (codes "refused: " ++ stage ++ codes " " ++ decimal_number at ++ further_part why)
+
+-- the line of a full pool: how many pulls gave samples before
+unfoldable pub full_line_of : ℕ → List ℕ
+full_line_of pulls = line (codes "pool full after " ++ decimal_number pulls ++ codes " pulls")

@@ -3,6 +3,8 @@
 //! Their forms stand in `docs/DEFINITIONS.md`, "Lines".
 #![tactic(auto)]
 
+mod full;
 mod refusal;
 
+pub use full::full_line;
 pub use refusal::refusal_line;

@@ -4,3 +4,4 @@ pub mod Literals
 pub mod Names
 pub mod Reading
 pub mod Declarations
+pub mod Keys

@@ -1,6 +1,6 @@
 -- Literals that are no operands: counts, rates, maps and divisors.
-use Rattle.std.specs.Prelude.{ℕ, ◌/◌, ◌%◌, Bool, true, false, ◌&&◌, not, nat_eq, nat_lt, nat_le, if◌then◌else◌, List, [], ◌∷◌, ◌++◌, length, Option, Some, None, ℤ, pos, int_lt}
-use Rattle.ny_num.specs.Grid.{count_of, ticks_of_micro}
+use Rattle.std.specs.Prelude.{ℕ, ◌*◌, ◌/◌, ◌%◌, Bool, true, false, ◌&&◌, not, nat_eq, nat_lt, nat_le, if◌then◌else◌, List, [], ◌∷◌, ◌++◌, length, Option, Some, None, ℤ, pos, int_lt}
+use Rattle.ny_num.specs.Grid.{count_of, hz_of, ticks_of_micro}
 use Rattle.ny_num.specs.declared.rate.Rate.{Rate}
 use Rattle.ny_num.specs.declared.rate.Rate.TheVariants as rate
 use Rattle.ny_resolve.specs.Builtins.{Bytes}
@@ -64,19 +64,17 @@ count_of_shape s = literal_count (literal_in s)
 
 -- ---- rates
 
+-- the nine rates
+abbrev pub all_rates : List Rate
+all_rates = rate.R2205 ∷ rate.R4410 ∷ rate.R8000 ∷ rate.R11025 ∷ rate.R16000 ∷ rate.R22050 ∷ rate.R32000 ∷ rate.R44100 ∷ rate.R48000 ∷ []
+
+abbrev pub first_at : ℕ → List Rate → Option Rate
+first_at n [] = None
+first_at n (r ∷ rs) = if nat_eq (hz_of r * 1000000) n then Some r else first_at n rs
+
 -- the rate of so many millionths of samples a second
 abbrev pub rate_at : ℕ → Option Rate
-rate_at n =
-    if nat_eq n 2205000000 then Some rate.R2205
-    else (if nat_eq n 4410000000 then Some rate.R4410
-    else (if nat_eq n 8000000000 then Some rate.R8000
-    else (if nat_eq n 11025000000 then Some rate.R11025
-    else (if nat_eq n 16000000000 then Some rate.R16000
-    else (if nat_eq n 22050000000 then Some rate.R22050
-    else (if nat_eq n 32000000000 then Some rate.R32000
-    else (if nat_eq n 44100000000 then Some rate.R44100
-    else (if nat_eq n 48000000000 then Some rate.R48000
-    else None))))))))
+rate_at n = first_at n all_rates
 
 abbrev pub literal_rate : Option ℤ → Option Rate
 literal_rate (Some v) = rate_at (count_of v)

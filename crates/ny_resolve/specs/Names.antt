@@ -1,7 +1,8 @@
 -- What names stand for at a place of the text.
-use Rattle.std.specs.Prelude.{ℕ, not, nat_eq, nat_le, if◌then◌else◌, List, [], ◌∷◌, ◌++◌, Option, Some, None, is_some, bytes_eq}
+use Rattle.std.specs.Prelude.{ℕ, not, nat_eq, nat_le, List, [], ◌∷◌, ◌++◌, Option, Some, None, is_some, bytes_eq}
 use Rattle.std.specs.Map.{lookup}
 use Rattle.indexmap.specs.IndexMap.{insert_entry}
+use Rattle.ny_scope.specs.Scopes.{last_of}
 use Rattle.ny_resolve.specs.declared.term.NameId.{NameId}
 use Rattle.ny_resolve.specs.declared.names.Called.{Called}
 use Rattle.ny_resolve.specs.declared.names.Names.{Names}
@@ -21,14 +22,9 @@ pub record Scope : Type 0 where
 abbrev pub name_at : ℕ → NameId
 name_at at = record { 0 = at }
 
--- what the last pair of a name says
-abbrev pub last_of : Option NameId → Bytes → List (Bytes × NameId) → Option NameId
-last_of found x [] = found
-last_of found x (b ∷ bs) = last_of (if bytes_eq x b.0 then Some b.1 else found) x bs
-
 -- what a local name stands for, if the place sees one
 abbrev pub local_of : Bytes → Scope → Option NameId
-local_of x s = last_of None x s.locals
+local_of x s = last_of (bytes_eq x) s.locals
 
 -- a name that is bound at a place of the text
 abbrev pub with_local : Bytes → ℕ → Scope → Scope

@@ -1,7 +1,9 @@
-ghost use Rattle.std.specs.Prelude.{◌≡◌, ◌+◌, IfOk, OnOk, map, [], ◌∷◌, length, bytes_eq};
+ghost use Rattle.std.specs.Prelude.{◌≡◌, ◌<◌, ◌+◌, ◌^◌, IfOk, OnOk, map, [], ◌∷◌, length, bytes_eq, ℕ};
 ghost use Rattle.ny_resolve.specs.declared.fault.Fault.{Fault as FaultOf};
+ghost use Rattle.ny_resolve.specs.declared.names.Names.{Names as NamesOf};
 ghost use Rattle.std.specs.Prelude.{Option as OptionOf};
 ghost use Rattle.indexmap.specs.IndexMap.{insert_entry};
+ghost use Rattle.ny_syntax.specs.Sizes.{tree_size};
 ghost use Rattle.ny_resolve.specs.Names.{scope_of};
 ghost use Rattle.ny_resolve.specs.Declarations.{declare, declared_after, nothing_declared, is_taken, function_is_taken, function_declared, variable_declared, read_params, declaration_read, declarations_read, scope_in, play_read, tree_read, declaring_of};
 
@@ -12,7 +14,8 @@ use crate::reading::{note_again, read_expr};
 use crate::term::{Declared, NameId, Part};
 use crate::word::Word;
 use indexmap::IndexMap;
-use ny_syntax::{Decl, Expr, Param, Tree};
+use ny_scope::Scope;
+use ny_syntax::{Decl, Expr, Param, Tree, size_laws};
 use sqlite_items::Items;
 use std::alloc::{AllocError, Global};
 
@@ -74,6 +77,7 @@ struct AllNames<'t> {
 }
 
 fn all_names<'t>(alloc: Global, declarations: &'t [Decl]) -> Result<AllNames<'t>, AllocError>
+    requires { length declarations.now < 2 ^ 32 }
     ensures { IfOk result (λ r. declaring_of r.names r.first ≡ declared_after 0 declarations.now nothing_declared) }
 {
     let mut names = Names {
@@ -82,42 +86,38 @@ fn all_names<'t>(alloc: Global, declarations: &'t [Decl]) -> Result<AllNames<'t>
     };
     let mut first = None;
     for i in 0..declarations.len() {
-        let number = u32::try_from(i).map_err(|_| AllocError)?;
+        let number = i as u32;
         first = declare(&mut names, number, &declarations[i], first)?;
     }
     Ok(AllNames { names, first })
 }
 
-/// Parameters that were read, as names and as what the body sees.
+/// Parameters that were read, and the first of the faults noted so far.
 #[derive(Debug, Drop)]
-struct ReadList<'t> {
+struct ReadList {
     params: Items<NameId>,
-    locals: Vec<(Word<'t>, NameId)>,
     first: Option<Fault>,
 }
 
+/// Reads the parameters of a function, and binds them.
 fn params_read<'t>(
     alloc: Global,
-    names: &Names<'t>,
-    here: u32,
+    locals: &mut Scope<Word<'t>, NameId>,
     params: &'t [Param],
     first: Option<Fault>,
-) -> Result<ReadList<'t>, AllocError>
-    ensures { IfOk result (λ r. record { params = r.params; scope = scope_of names.now here r.locals.items; first = r.first } ≡ read_params params.now [] (scope_of names.now here []) [] first) }
+) -> Result<ReadList, AllocError>
+    ensures { (names : NamesOf) → (here : ℕ) → IfOk result (λ r. record { params = r.params; scope = scope_of names here locals.new; first = r.first } ≡ read_params params.now [] (scope_of names here locals.old) [] first) }
 {
-    let _names = names;
     let mut seen = IndexMap::new(alloc);
-    let mut locals = Vec::new(alloc);
     let mut done = Items::new(alloc);
     let mut first = first;
     for param in params {
         first = note_again(&mut seen, Word::of(&param.name), param.at, first)?;
-        locals.push((Word::of(&param.name), NameId(param.at)))?;
+        locals.bind(Word::of(&param.name), NameId(param.at))?;
         done.push(NameId(param.at))?;
     }
     Ok(ReadList {
         params: done,
-        locals,
         first,
     })
 }
@@ -138,17 +138,11 @@ fn declaration_read<'t>(
 ) -> Result<ReadDeclaration, AllocError>
     ensures { IfOk result (λ r. record { declared = r.declared; first = r.first } ≡ declaration_read declaration.now (scope_of names.now here []) first) }
 {
+    let mut locals = Scope::new(alloc);
     match declaration {
         Decl::Function { params, body, .. } => {
-            let params = params_read(alloc, names, here, params.as_slice(), first)?;
-            let body = read_expr(
-                alloc,
-                names,
-                here,
-                params.locals.as_slice(),
-                body,
-                params.first,
-            )?;
+            let params = params_read(alloc, &mut locals, params.as_slice(), first)?;
+            let body = read_expr(alloc, names, here, &mut locals, body, params.first)?;
             Ok(ReadDeclaration {
                 declared: Declared {
                     params: params.params,
@@ -159,7 +153,7 @@ fn declaration_read<'t>(
             })
         }
         Decl::Variable { value, .. } => {
-            let value = read_expr(alloc, names, here, &[], value, first)?;
+            let value = read_expr(alloc, names, here, &mut locals, value, first)?;
             Ok(ReadDeclaration {
                 declared: Declared {
                     params: Items::new(alloc),
@@ -185,12 +179,13 @@ fn declarations_read<'t>(
     declarations: &'t [Decl],
     first: Option<Fault>,
 ) -> Result<ReadDeclared, AllocError>
+    requires { length declarations.now < 2 ^ 32 }
     ensures { (f : OptionOf FaultOf) → IfOk result (λ r. record { declared = r.declared; first = r.first } ≡ declarations_read (declaring_of names.now f) 0 declarations.now [] first) }
 {
     let mut done = Items::new(alloc);
     let mut first = first;
     for i in 0..declarations.len() {
-        let here = u32::try_from(i).map_err(|_| AllocError)?;
+        let here = i as u32;
         let read = declaration_read(alloc, names, here, &declarations[i], first)?;
         first = read.first;
         done.push(read.declared)?;
@@ -219,7 +214,8 @@ fn play_read<'t>(
             first: noted(CheckWhy::NoPlay, end, first),
         }),
         Some(e) => {
-            let played = read_expr(alloc, names, here, &[], e, first)?;
+            let mut locals = Scope::new(alloc);
+            let played = read_expr(alloc, names, here, &mut locals, e, first)?;
             Ok(ReadTree {
                 declared,
                 play: Some(played.part),
@@ -230,12 +226,17 @@ fn play_read<'t>(
 }
 
 /// The terms of a text, and the first of the faults that it shows before any kind is known.
+///
+/// Names and declarations have 32-bit numbers, so the tree has fewer than 2^32 expressions and names, as each
+/// tree of a text has (`ny_syntax::size_laws`).
 pub fn read_tree(alloc: Global, tree: &Tree) -> Result<ReadTree, AllocError>
+    requires { tree_size tree.now < 2 ^ 32 }
     ensures { IfOk result (λ r. record { declared = r.declared; play = r.play; first = r.first } ≡ tree_read tree.now) }
 {
+    size_laws();
     let declarations = tree.decls.as_slice();
     let all = all_names(alloc, declarations)?;
     let read = declarations_read(alloc, &all.names, declarations, all.first)?;
-    let here = u32::try_from(declarations.len()).map_err(|_| AllocError)?;
+    let here = declarations.len() as u32;
     play_read(alloc, &all.names, here, tree.end, &tree.play, read)
 }

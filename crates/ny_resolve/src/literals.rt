@@ -11,6 +11,9 @@ use std::alloc::{AllocError, Global};
 
 const HOUR: i64 = 3_600_000_000;
 
+// in millionths of samples a second
+const GREATEST_RATE: u64 = 48_000_000_000;
+
 /// The literal that an expression is.
 pub(crate) fn literal(e: &Expr) -> Option<Fix>
     ensures { result ≡ literal_in (reading e.now).shape }
@@ -93,21 +96,15 @@ pub(crate) fn count(e: &Expr) -> u32
     }
 }
 
+/// The rate of so many millionths of samples a second.
+#[tactic(auto, using(crate::proofs::Rates::rate_laws))]
 fn rate_at(micro: u64) -> Option<Rate>
     ensures { result ≡ rate_at micro }
 {
-    match micro {
-        2_205_000_000 => Some(Rate::R2205),
-        4_410_000_000 => Some(Rate::R4410),
-        8_000_000_000 => Some(Rate::R8000),
-        11_025_000_000 => Some(Rate::R11025),
-        16_000_000_000 => Some(Rate::R16000),
-        22_050_000_000 => Some(Rate::R22050),
-        32_000_000_000 => Some(Rate::R32000),
-        44_100_000_000 => Some(Rate::R44100),
-        48_000_000_000 => Some(Rate::R48000),
-        _ => None,
+    if micro % 1_000_000 != 0 || GREATEST_RATE < micro {
+        return None;
     }
+    Rate::of((micro / 1_000_000) as u32)
 }
 
 /// The rate of the table that an expression is.

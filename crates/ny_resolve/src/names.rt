@@ -1,9 +1,8 @@
-ghost use Rattle.std.specs.Prelude.{◌≡◌, bytes_eq, None, is_some};
+ghost use Rattle.std.specs.Prelude.{◌≡◌, bytes_eq};
 ghost use Rattle.std.specs.Map.{lookup};
-ghost use Rattle.ny_resolve.specs.Names.{last_of, variable_noted, function_noted};
+ghost use Rattle.ny_resolve.specs.Names.{variable_noted, function_noted};
 
 use crate::fault::{CheckWhy, Fault, noted, noted_if};
-use crate::term::NameId;
 use crate::word::Word;
 use indexmap::IndexMap;
 
@@ -36,19 +35,6 @@ pub(crate) fn variable_named<'t>(variables: &IndexMap<Word<'t>, u32>, x: &Word<'
     ensures { result ≡ lookup (bytes_eq x.now) variables.now.entries }
 {
     variables.get(x).copied()
-}
-
-/// The nearest local name with these bytes.
-pub(crate) fn local_named<'t>(locals: &[(Word<'t>, NameId)], x: &[u8]) -> Option<NameId>
-    ensures { result ≡ last_of None x.now locals.now }
-{
-    let mut found = None;
-    for (word, name) in locals {
-        if word.is(x) {
-            found = Some(*name);
-        }
-    }
-    found
 }
 
 /// The first fault, where a global variable is used here.

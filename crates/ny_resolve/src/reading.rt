@@ -1,4 +1,4 @@
-ghost use Rattle.std.specs.Prelude.{◌≡◌, ◌+◌, IfOk, OnOk, map, [], ◌∷◌, length, not, ℕ, pos, if◌then◌else◌};
+ghost use Rattle.std.specs.Prelude.{◌≡◌, ◌+◌, IfOk, OnOk, map, [], ◌∷◌, length, take, not, ℕ, pos, if◌then◌else◌};
 ghost use Rattle.ny_resolve.specs.declared.term.Term.TheVariants as term;
 ghost use Rattle.ny_resolve.specs.declared.names.Names.{Names as NamesOf};
 ghost use Rattle.ny_resolve.specs.Builtins.{builtin_of, arity_of, fits};
@@ -12,12 +12,11 @@ use crate::calls::{
 };
 use crate::fault::{CheckWhy, Fault, noted_if};
 use crate::literals::{is_zero, value};
-use crate::names::{
-    Names, function_named, function_noted, local_named, variable_named, variable_noted,
-};
+use crate::names::{Names, function_named, function_noted, variable_named, variable_noted};
 use crate::term::{Bound, NameId, Part, Term};
 use crate::word::Word;
 use indexmap::IndexMap;
+use ny_scope::{Key, Scope};
 use ny_syntax::{BinOp, Bind, Expr, Form, Name, PreOp};
 use sqlite_items::{Boxed, Items};
 use std::alloc::{AllocError, Global};
@@ -36,11 +35,10 @@ struct ReadMany {
     first: Option<Fault>,
 }
 
-/// Binds that were read, the local names after them, and the first of the faults noted so far.
+/// Binds that were read, and the first of the faults noted so far.
 #[derive(Debug, Drop)]
-struct ReadBlock<'t> {
+struct ReadBlock {
     binds: Items<Bound>,
-    locals: Vec<(Word<'t>, NameId)>,
     first: Option<Fault>,
 }
 
@@ -80,48 +78,34 @@ fn is_division(operator: BinOp) -> bool
     matches!(operator, BinOp::Div)
 }
 
-/// Local names, once more.
-fn copied<'t>(
-    alloc: Global,
-    locals: &[(Word<'t>, NameId)],
-) -> Result<Vec<(Word<'t>, NameId)>, AllocError>
-    ensures { IfOk result (λ all. all.items ≡ locals.now) }
-{
-    let mut all = Vec::new(alloc);
-    for (word, name) in locals {
-        all.push((word.copy(), *name))?;
-    }
-    Ok(all)
-}
-
-/// The local names where a repeat's counter, if it has one, is bound at this place.
-fn with_counter<'t>(
-    alloc: Global,
-    locals: &[(Word<'t>, NameId)],
+/// Binds a repeat's counter, if it has one, at this place.
+#[tactic(auto, using(ny_scope::proofs::Kept::kept_all))]
+fn bind_counter<'t>(
+    locals: &mut Scope<Word<'t>, NameId>,
     counter: &Option<Word<'t>>,
     at: u32,
-) -> Result<Vec<(Word<'t>, NameId)>, AllocError>
-    ensures { (names : NamesOf) → (here : ℕ) → IfOk result (λ all. scope_of names here all.items ≡ with_counter counter.now at (scope_of names here locals.now)) }
+) -> Result<(), AllocError>
+    ensures bound { (names : NamesOf) → (here : ℕ) → OnOk result (scope_of names here locals.new ≡ with_counter counter.now at (scope_of names here locals.old)) }
+    ensures kept { OnOk result (take (length locals.old) locals.new ≡ locals.old) }
 {
-    let mut all = copied(alloc, locals)?;
     if let Some(word) = counter {
-        all.push((word.copy(), NameId(at)))?;
+        locals.bind(word.copied(), NameId(at))?;
     }
-    Ok(all)
+    Ok(())
 }
 
 /// A value name.
 fn name_read<'t>(
     names: &Names<'t>,
     here: u32,
-    locals: &[(Word<'t>, NameId)],
+    locals: &Scope<Word<'t>, NameId>,
     at: u32,
     x: &'t Name,
     first: Option<Fault>,
 ) -> Read
     ensures { record { part = result.part; first = result.first } ≡ value_named at x.now.bytes (scope_of names.now here locals.now) (local_of x.now.bytes (scope_of names.now here locals.now)) first }
 {
-    match local_named(locals, x.bytes.as_slice()) {
+    match locals.find(&Word::of(x)) {
         Some(name) => Read {
             part: Part {
                 at,
@@ -148,11 +132,12 @@ pub(crate) fn read_expr<'t>(
     alloc: Global,
     names: &Names<'t>,
     here: u32,
-    locals: &[(Word<'t>, NameId)],
+    locals: &mut Scope<Word<'t>, NameId>,
     e: &'t Expr,
     first: Option<Fault>,
 ) -> Result<Read, AllocError>
-    ensures { IfOk result (λ r. record { part = r.part; first = r.first } ≡ (reading e.now).read (scope_of names.now here locals.now) first) }
+    ensures read { IfOk result (λ r. record { part = r.part; first = r.first } ≡ (reading e.now).read (scope_of names.now here locals.old) first) }
+    ensures same { OnOk result (locals.new ≡ locals.old) }
 {
     match &e.form {
         Form::Number(v) => Ok(Read {
@@ -181,15 +166,10 @@ pub(crate) fn read_expr<'t>(
             Ok(applied(e.at, Operator::If, parts, b.first))
         }
         Form::Block(binds, value) => {
+            let outer = locals.len();
             let binds = read_each_bind(alloc, names, here, locals, binds.as_slice(), first)?;
-            let value = read_expr(
-                alloc,
-                names,
-                here,
-                binds.locals.as_slice(),
-                value.get(),
-                binds.first,
-            )?;
+            let value = read_expr(alloc, names, here, locals, value.get(), binds.first)?;
+            locals.leave(outer);
             Ok(Read {
                 part: Part {
                     at: e.at,
@@ -266,13 +246,14 @@ fn read_call<'t>(
     alloc: Global,
     names: &Names<'t>,
     here: u32,
-    locals: &[(Word<'t>, NameId)],
+    locals: &mut Scope<Word<'t>, NameId>,
     at: u32,
     x: &'t Name,
     parts: &'t [Expr],
     first: Option<Fault>,
 ) -> Result<Read, AllocError>
-    ensures { IfOk result (λ r. record { part = r.part; first = r.first } ≡ called at x.now.bytes (builtin_of x.now.bytes) (map reading parts.now) (scope_of names.now here locals.now) first) }
+    ensures read { IfOk result (λ r. record { part = r.part; first = r.first } ≡ called at x.now.bytes (builtin_of x.now.bytes) (map reading parts.now) (scope_of names.now here locals.old) first) }
+    ensures same { OnOk result (locals.new ≡ locals.old) }
 {
     match built_in(x.bytes.as_slice()) {
         Some(builtin) => {
@@ -322,11 +303,12 @@ fn read_each<'t>(
     alloc: Global,
     names: &Names<'t>,
     here: u32,
-    locals: &[(Word<'t>, NameId)],
+    locals: &mut Scope<Word<'t>, NameId>,
     parts: &'t [Expr],
     first: Option<Fault>,
 ) -> Result<ReadMany, AllocError>
-    ensures { IfOk result (λ r. record { parts = r.parts; first = r.first } ≡ read_parts (map reading parts.now) (scope_of names.now here locals.now) [] first) }
+    ensures read { IfOk result (λ r. record { parts = r.parts; first = r.first } ≡ read_parts (map reading parts.now) (scope_of names.now here locals.old) [] first) }
+    ensures same { OnOk result (locals.new ≡ locals.old) }
 {
     let mut done = Items::new(alloc);
     let mut first = first;
@@ -344,11 +326,12 @@ fn read_inside<'t>(
     alloc: Global,
     names: &Names<'t>,
     here: u32,
-    locals: &[(Word<'t>, NameId)],
+    locals: &mut Scope<Word<'t>, NameId>,
     e: &'t Expr,
     first: Option<Fault>,
 ) -> Result<Option<Fault>, AllocError>
-    ensures { IfOk result (λ f. f ≡ (reading e.now).arguments (scope_of names.now here locals.now) first) }
+    ensures read { IfOk result (λ f. f ≡ (reading e.now).arguments (scope_of names.now here locals.old) first) }
+    ensures same { OnOk result (locals.new ≡ locals.old) }
 {
     match &e.form {
         Form::Call(_, parts) => {
@@ -364,7 +347,7 @@ fn read_argument<'t>(
     alloc: Global,
     names: &Names<'t>,
     here: u32,
-    locals: &[(Word<'t>, NameId)],
+    locals: &mut Scope<Word<'t>, NameId>,
     builtin: Builtin,
     counter: &Option<Word<'t>>,
     at: u32,
@@ -372,7 +355,8 @@ fn read_argument<'t>(
     e: &'t Expr,
     first: Option<Fault>,
 ) -> Result<Read, AllocError>
-    ensures { IfOk result (λ r. record { part = r.part; first = r.first } ≡ argument_read builtin counter.now at j (reading e.now) (scope_of names.now here locals.now) first) }
+    ensures read { IfOk result (λ r. record { part = r.part; first = r.first } ≡ argument_read builtin counter.now at j (reading e.now) (scope_of names.now here locals.old) first) }
+    ensures same { OnOk result (locals.new ≡ locals.old) }
 {
     let first = argument_noted(alloc, builtin, j, e, first)?;
     if is_counter(builtin, j, e) {
@@ -389,8 +373,11 @@ fn read_argument<'t>(
         });
     }
     if sees_counter(builtin, j) {
-        let inner = with_counter(alloc, locals, counter, at)?;
-        Ok(read_expr(alloc, names, here, inner.as_slice(), e, first)?)
+        let outer = locals.len();
+        bind_counter(locals, counter, at)?;
+        let read = read_expr(alloc, names, here, locals, e, first)?;
+        locals.leave(outer);
+        Ok(read)
     } else {
         Ok(read_expr(alloc, names, here, locals, e, first)?)
     }
@@ -401,12 +388,13 @@ fn read_arguments<'t>(
     alloc: Global,
     names: &Names<'t>,
     here: u32,
-    locals: &[(Word<'t>, NameId)],
+    locals: &mut Scope<Word<'t>, NameId>,
     builtin: Builtin,
     parts: &'t [Expr],
     first: Option<Fault>,
 ) -> Result<ReadMany, AllocError>
-    ensures { IfOk result (λ r. record { parts = r.parts; first = r.first } ≡ arguments_read builtin (first_counter (map reading parts.now)) (first_place (map reading parts.now)) 0 (map reading parts.now) (scope_of names.now here locals.now) [] first) }
+    ensures read { IfOk result (λ r. record { parts = r.parts; first = r.first } ≡ arguments_read builtin (first_counter (map reading parts.now)) (first_place (map reading parts.now)) 0 (map reading parts.now) (scope_of names.now here locals.old) [] first) }
+    ensures same { OnOk result (locals.new ≡ locals.old) }
 {
     let counter = first_counter(parts);
     let at = first_place(parts);
@@ -436,34 +424,32 @@ pub(crate) fn note_again<'t>(
     Ok(noted_if(before.is_some(), CheckWhy::Redefined, at, first))
 }
 
+/// Reads the binds of a block, and leaves their names bound.
 #[cycle(read)]
+#[tactic(auto, using(ny_scope::proofs::Kept::kept_more))]
 fn read_each_bind<'t>(
     alloc: Global,
     names: &Names<'t>,
     here: u32,
-    locals: &[(Word<'t>, NameId)],
+    locals: &mut Scope<Word<'t>, NameId>,
     binds: &'t [Bind],
     first: Option<Fault>,
-) -> Result<ReadBlock<'t>, AllocError>
-    ensures { IfOk result (λ r. record { binds = r.binds; scope = scope_of names.now here r.locals.items; first = r.first } ≡ read_binds (map reading_of_bind binds.now) [] (scope_of names.now here locals.now) [] first) }
+) -> Result<ReadBlock, AllocError>
+    ensures read { IfOk result (λ r. record { binds = r.binds; scope = scope_of names.now here locals.new; first = r.first } ≡ read_binds (map reading_of_bind binds.now) [] (scope_of names.now here locals.old) [] first) }
+    ensures kept { OnOk result (take (length locals.old) locals.new ≡ locals.old) }
 {
-    let mut locals = copied(alloc, locals)?;
     let mut seen = IndexMap::new(alloc);
     let mut done = Items::new(alloc);
     let mut first = first;
     for bind in binds {
         first = note_again(&mut seen, Word::of(&bind.name), bind.at, first)?;
-        let read = read_expr(alloc, names, here, locals.as_slice(), &bind.value, first)?;
+        let read = read_expr(alloc, names, here, locals, &bind.value, first)?;
         first = read.first;
-        locals.push((Word::of(&bind.name), NameId(bind.at)))?;
+        locals.bind(Word::of(&bind.name), NameId(bind.at))?;
         done.push(Bound {
             name: NameId(bind.at),
             value: read.part,
         })?;
     }
-    Ok(ReadBlock {
-        binds: done,
-        locals,
-        first,
-    })
+    Ok(ReadBlock { binds: done, first })
 }

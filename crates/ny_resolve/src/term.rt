@@ -1,10 +1,17 @@
 use crate::builtin::{Operator, Order, Rated};
 use ny_num::{Fix, Rate};
+use ny_scope::Key;
 use sqlite_items::{Boxed, Items};
 
 /// A local name, by the byte where it is bound: each parameter, bind and counter has its own.
-#[derive(Clone, Copy, Debug, PartialEq, Eq)]
+#[derive(Clone, Copy, Debug, PartialEq, Eq, Hash)]
 pub struct NameId(pub u32);
+
+impl Key for NameId {
+    fn copied(&self) -> NameId {
+        *self
+    }
+}
 
 /// An expression that was read, at its place in the text.
 #[cycle(term)]

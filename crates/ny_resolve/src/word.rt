@@ -3,6 +3,7 @@ ghost use Rattle.std.specs.Cmp.Rules.{comparing, hashing};
 ghost use Rattle.std.specs.Hash as fed;
 ghost use Rattle.std.proofs.Common.{rules};
 
+use ny_scope::Key;
 use ny_syntax::Name;
 use std::hash::{Hash, Hasher};
 use std::marker::Model;
@@ -45,6 +46,12 @@ impl<'t> Hash for Word<'t> {
     }
 }
 
+impl<'t> Key for Word<'t> {
+    fn copied(&self) -> Word<'t> {
+        Word { bytes: self.bytes }
+    }
+}
+
 impl<'t> Word<'t> {
     /// The word that a name is.
     pub fn of(name: &'t Name) -> Word<'t>
@@ -53,19 +60,5 @@ impl<'t> Word<'t> {
         Word {
             bytes: name.bytes.as_slice(),
         }
-    }
-
-    /// The same word.
-    pub fn copy(&self) -> Word<'t>
-        ensures { result ≡ self.now }
-    {
-        Word { bytes: self.bytes }
-    }
-
-    /// Whether the word has these bytes.
-    pub fn is(&self, bytes: &[u8]) -> bool
-        ensures { result ≡ bytes_eq bytes.now self.now }
-    {
-        bytes == self.bytes
     }
 }

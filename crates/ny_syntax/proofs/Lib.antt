@@ -15,3 +15,5 @@ pub mod UnplacedEquations
 pub mod WholeLines
 pub mod WorkedTexts
 pub mod WrittenEquations
+pub mod SizeEquations
+pub mod SizesInTokens

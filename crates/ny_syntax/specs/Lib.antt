@@ -4,3 +4,4 @@ pub mod Levels
 pub mod Places
 pub mod SameTree
 pub mod Spelled
+pub mod Sizes

@@ -10,7 +10,7 @@ mod token;
 mod tree;
 mod written;
 
-pub use laws::canonical_laws;
+pub use laws::{canonical_laws, size_laws};
 pub use lines::canonical;
 pub use token::{Mark, Token, TokenKind, Word};
 pub use tree::{BinOp, Bind, Decl, Expr, Form, Name, Param, PreOp, Tree};

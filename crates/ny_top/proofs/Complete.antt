@@ -1,15 +1,17 @@
 -- What follows from a run's end and the causes of its faults.
-use Rattle.std.proofs.Common.{◌≡◌, ◌⊎◌, List, refl, sym, subst, ap, ◌∙◌, None, Some, IfSome, IsTrue, inl, inr}
+use Rattle.std.proofs.Common.{◌≡◌, ℕ, ◌⊎◌, List, refl, sym, subst, ap, ◌∙◌, None, Some, IfSome, IsTrue, inl, inr}
 use Rattle.std.specs.Prelude.{IsSomeAnd}
 use Rattle.std.specs.declared.option.Option.{Option}
 use Rattle.ny_io.specs.Faults.{Rose}
-use Rattle.ny_io.specs.Host.{HostState, Named}
+use Rattle.ny_io.specs.Host.{HostState, Named, bytes_under}
 use Rattle.ny_top.specs.declared.status.Status.{Status}
 use Rattle.ny_top.specs.declared.status.Status.TheVariants.{Ok, Usage, OpenFault, ReadFault, WriteFault, Refused, PoolFull, OutOfMemory}
-use Rattle.ny_top.specs.Words.{Task, Command, render, check}
-use Rattle.ny_top.specs.Outcome.{Outcome, HasCommandOutcome, IsRefused}
-use Rattle.ny_top.specs.Ends.{EndsAs, NoneRose, CreateCause, NoCreateRose, OpenCause, ReadCause, is_whole}
-use Rattle.ny_top.proofs.OneOutcome.{one_outcome}
+use Rattle.ny_pull.specs.declared.term.Term.{Term}
+use Rattle.ny_pull.specs.Engine.{EngineState}
+use Rattle.ny_top.specs.Channel.{tree_terms}
+use Rattle.ny_top.specs.Words.{Render, Task, Command, render, check}
+use Rattle.ny_top.specs.Outcome.{Outcome, HasTermsOutcome, HasReadOutcome, HasTextOutcome, HasCommandOutcome, IsRefused, IsUnrefused}
+use Rattle.ny_top.specs.Ends.{EndsAs, NoneRose, CreateCause, NoCreateRose, OpenCause, ReadCause, TaskPoolFull, is_whole}
 
 no_create : (task : Task) (old new : HostState) → NoCreateRose task old new → CreateCause task old new → ⊥
 no_create check old new quiet cause = cause
@@ -28,53 +30,103 @@ no_write : (asked : Option Command) (old new : HostState) → NoneRose asked old
 no_write None old new quiet rose = quiet rose
 no_write (Some command) old new quiet rose = quiet.3 rose
 
--- the causes of the faults of a run
-pub record Causes (asked : Option Command) (status : Status) (old new : HostState) : Type 0 where
-  pub whole : IsTrue (is_whole status) → IfSome old.files (λ files. EndsAs (HasCommandOutcome asked files) status old new)
+-- the causes of the answers of a run that leaves this engine
+pub record Causes (asked : Option Command) (left : Option EngineState) (status : Status) (old new : HostState) : Type 0 where
+  pub whole : IsTrue (is_whole status) → IfSome old.files (λ files. EndsAs (HasCommandOutcome asked files left) status old new)
   pub open' : status ≡ OpenFault → IsSomeAnd asked (λ command. OpenCause command old new)
   pub read : status ≡ ReadFault → IsSomeAnd asked (λ command. ReadCause command old new)
   pub write : status ≡ WriteFault → Rose old.writes new.writes
+  pub usage : status ≡ Usage → asked ≡ None
+  pub refused : status ≡ Refused → IfSome old.files (λ files. IsRefused asked files)
+  pub full : status ≡ PoolFull → IsSomeAnd asked (λ command. TaskPoolFull command.task left)
 
-abbrev Completes : Option Command → Status → List Named → Type 0
-Completes asked status files = (o : Outcome) → HasCommandOutcome asked files o → o.status ≡ Ok → (status ≡ Ok) ⊎ (status ≡ OutOfMemory)
+abbrev Completes : Option Command → Option EngineState → Status → List Named → Type 0
+Completes asked left status files =
+    IsUnrefused asked files
+    → (status ≡ Ok) ⊎ (status ≡ OutOfMemory) ⊎ ((status ≡ PoolFull) × IsSomeAnd asked (λ command. TaskPoolFull command.task left))
 
--- a whole status is that of the one outcome
-by_outcome : (asked : Option Command) (status : Status) (old new : HostState) (files : List Named) → EndsAs (HasCommandOutcome asked files) status old new → Completes asked status files
-by_outcome asked status old new files ended = λ o has ok.
-    inl (ended.2.0 ∙ ap (λ p. p.status) (one_outcome asked files o ended.0 has ended.1) ∙ ok)
+-- what holds of all files holds where files are told
+for_files : (P : List Named → Type 0) (files : Option (List Named)) → ((fs : List Named) → P fs) → IfSome files P
+for_files P None all = tt
+for_files P (Some files) all = all files
 
-if_whole : (asked : Option Command) (status : Status) (old new : HostState) → IfSome old.files (λ files. EndsAs (HasCommandOutcome asked files) status old new)
-    → IfSome old.files (λ files. Completes asked status files)
-if_whole asked status old new ended = by_files old.files ended
+if_refused : (asked : Option Command) (left : Option EngineState) (files : Option (List Named)) → IfSome files (λ files. IsRefused asked files)
+    → IfSome files (λ files. Completes asked left Refused files)
+if_refused asked left None is = tt
+if_refused asked left (Some files) is = λ unrefused. absurd (unrefused.1 is)
+
+-- where no refusal applies and no fault was counted, a run is Ok, or memory was wanting, or the pool is full
+pub completes : (asked : Option Command) (left : Option EngineState) (status : Status) (old new : HostState) → Causes asked left status old new → NoneRose asked old new
+    → IfSome old.files (λ files. Completes asked left status files)
+completes asked left Ok old new causes quiet = for_files (Completes asked left Ok) old.files (λ files unrefused. inl refl)
+completes asked left Usage old new causes quiet = for_files (Completes asked left Usage) old.files (λ files unrefused. absurd (unrefused.0 (causes.usage refl)))
+completes asked left Refused old new causes quiet = if_refused asked left old.files (causes.refused refl)
+completes asked left PoolFull old new causes quiet = for_files (Completes asked left PoolFull) old.files (λ files unrefused. inr (inr (refl, causes.full refl)))
+completes asked left OpenFault old new causes quiet = absurd (no_open asked old new quiet (causes.open' refl))
+completes asked left ReadFault old new causes quiet = absurd (no_read asked old new quiet (causes.read refl))
+completes asked left WriteFault old new causes quiet = absurd (no_write asked old new quiet (causes.write refl))
+completes asked left OutOfMemory old new causes quiet = for_files (Completes asked left OutOfMemory) old.files (λ files unrefused. inr (inl refl))
+
+-- ---- refusals leave no engine
+
+refused_terms : (r : Render) (terms : Option (List Term)) (left : Option EngineState) (o : Outcome) → HasTermsOutcome r terms left o → o.status ≡ Refused → left ≡ None
+refused_terms r None left o has is = has.0
+refused_terms r (Some terms) None o has is = absurd has
+refused_terms r (Some terms) (Some e) o (inl (ended, o_is)) is = absurd (not_ok (sym (ap (λ p. p.status) o_is) ∙ is))
   where
-    by_files : (files : Option (List Named)) → IfSome files (λ files. EndsAs (HasCommandOutcome asked files) status old new) → IfSome files (λ files. Completes asked status files)
-    by_files None ended = tt
-    by_files (Some files) ended = by_outcome asked status old new files ended
+    not_ok : Ok ≡ Refused → ⊥
+    not_ok e = cc
+refused_terms r (Some terms) (Some e) o (inr (n, stopped, o_is)) is = absurd (not_full (sym (ap (λ p. p.status) o_is) ∙ is))
+  where
+    not_full : PoolFull ≡ Refused → ⊥
+    not_full e = cc
 
--- want of memory completes
-if_memory : (asked : Option Command) (files : Option (List Named)) → IfSome files (λ files. Completes asked OutOfMemory files)
-if_memory asked None = tt
-if_memory asked (Some files) = λ o has ok. inr refl
+refused_read : (task : Task) (text : List ℕ) (left : Option EngineState) (o : Outcome) → HasReadOutcome task text left o → o.status ≡ Refused → left ≡ None
+refused_read task text left o (inl (a, has, none, o_is)) is = none
+refused_read (render r) text left o (inr (tree, accepted, has)) is = refused_terms r (tree_terms r.rate tree) left o has is
+refused_read check text left o (inr (tree, accepted, has)) is = has.0
 
--- where no fault was counted, a run that is not refused is Ok, or memory was wanting
-pub completes : (asked : Option Command) (status : Status) (old new : HostState) → Causes asked status old new → NoneRose asked old new
-    → IfSome old.files (λ files. Completes asked status files)
-completes asked Ok old new causes quiet = if_whole asked Ok old new (causes.whole refl)
-completes asked Usage old new causes quiet = if_whole asked Usage old new (causes.whole refl)
-completes asked Refused old new causes quiet = if_whole asked Refused old new (causes.whole refl)
-completes asked PoolFull old new causes quiet = if_whole asked PoolFull old new (causes.whole refl)
-completes asked OpenFault old new causes quiet = absurd (no_open asked old new quiet (causes.open' refl))
-completes asked ReadFault old new causes quiet = absurd (no_read asked old new quiet (causes.read refl))
-completes asked WriteFault old new causes quiet = absurd (no_write asked old new quiet (causes.write refl))
-completes asked OutOfMemory old new causes quiet = if_memory asked old.files
+refused_left : (asked : Option Command) (files : List Named) (left : Option EngineState) (o : Outcome) → HasCommandOutcome asked files left o → o.status ≡ Refused → left ≡ None
+refused_left None files left o has is = has.0
+refused_left (Some command) files left o (inl (long, none, o_is)) is = none
+refused_left (Some command) files left o (inr (short, has)) is = refused_read command.task (bytes_under command.from files) left o has is
 
 -- a run that is refused is so by its outcome
-pub is_refused : (asked : Option Command) (status : Status) (old new : HostState) → Causes asked status old new → status ≡ Refused
+pub is_refused : (asked : Option Command) (left : Option EngineState) (status : Status) (old new : HostState)
+    → (IsTrue (is_whole status) → IfSome old.files (λ files. EndsAs (HasCommandOutcome asked files left) status old new)) → status ≡ Refused
     → IfSome old.files (λ files. IsRefused asked files)
-is_refused asked status old new causes is =
+is_refused asked left status old new whole is =
     let P : Status → Type 0 = λ s. IsTrue (is_whole s) in
-    by_files old.files (causes.whole (subst P (sym is) refl))
+    by_files old.files (whole (subst P (sym is) refl))
   where
-    by_files : (files : Option (List Named)) → IfSome files (λ files. EndsAs (HasCommandOutcome asked files) status old new) → IfSome files (λ files. IsRefused asked files)
+    by_files : (files : Option (List Named)) → IfSome files (λ files. EndsAs (HasCommandOutcome asked files left) status old new) → IfSome files (λ files. IsRefused asked files)
     by_files None ended = tt
-    by_files (Some files) ended = (ended.0, ended.1, sym ended.2.0 ∙ is)
+    by_files (Some files) ended =
+        let refused : ended.0.status ≡ Refused = sym ended.2.0 ∙ is in
+        let P : Option EngineState → Type 0 = λ l. HasCommandOutcome asked files l ended.0 in
+        (ended.0, subst P (refused_left asked files left ended.0 ended.1 refused) ended.1, refused)
+
+-- ---- the outcome of a command
+
+-- the words are this command
+pub by_command : (asked : Option Command) (command : Command) (left : Option EngineState) (status : Status) (old new : HostState) → asked ≡ Some command
+    → IfSome old.files (λ files. EndsAs (HasTextOutcome command.task (bytes_under command.from files) left) status old new)
+    → IfSome old.files (λ files. EndsAs (HasCommandOutcome asked files left) status old new)
+by_command asked command left status old new is ended =
+    let P : Option Command → Type 0 = λ c. IfSome old.files (λ files. EndsAs (HasCommandOutcome c files left) status old new) in
+    subst P (sym is) ended
+
+-- where no fault was counted and memory was not wanting, a status is whole
+pub whole_unless : (asked : Option Command) (status : Status) (old new : HostState)
+    → (status ≡ OpenFault → IsSomeAnd asked (λ command. OpenCause command old new))
+    → (status ≡ ReadFault → IsSomeAnd asked (λ command. ReadCause command old new))
+    → (status ≡ WriteFault → Rose old.writes new.writes)
+    → NoneRose asked old new → (status ≡ OutOfMemory → ⊥) → IsTrue (is_whole status)
+whole_unless asked Ok old new opens reads writes quiet memory = refl
+whole_unless asked Usage old new opens reads writes quiet memory = refl
+whole_unless asked Refused old new opens reads writes quiet memory = refl
+whole_unless asked PoolFull old new opens reads writes quiet memory = refl
+whole_unless asked OpenFault old new opens reads writes quiet memory = absurd (no_open asked old new quiet (opens refl))
+whole_unless asked ReadFault old new opens reads writes quiet memory = absurd (no_read asked old new quiet (reads refl))
+whole_unless asked WriteFault old new opens reads writes quiet memory = absurd (no_write asked old new quiet (writes refl))
+whole_unless asked OutOfMemory old new opens reads writes quiet memory = absurd (memory refl)

@@ -1,5 +1,3 @@
-pub mod Sums
-pub mod RunLists
 pub mod Terms
 pub mod Files
 pub mod Numbers
@@ -9,5 +7,7 @@ pub mod Parts
 pub mod FaultLines
 pub mod Outcomes
 pub mod Stages
+pub mod RoundLemmas
+pub mod FileLemmas
 pub mod OneOutcome
 pub mod Complete

@@ -1,5 +1,5 @@
 -- A text has one outcome at most, so words have one over the same files.
-use Rattle.std.proofs.Common.{◌≡◌, ℕ, List, length, sym, subst, ap, ◌∙◌, arith, None, Some, inl, inr}
+use Rattle.std.proofs.Common.{◌≡◌, ℕ, List, [], ◌∷◌, length, slice_index, sym, subst, ap, ◌∙◌, arith, None, Some, inl, inr}
 use Rattle.std.specs.declared.option.Option.{Option}
 use Rattle.ny_io.specs.Host.{Named, bytes_under}
 use Rattle.ny_syntax.specs.declared.token.Token.{Token}
@@ -14,9 +14,15 @@ use Rattle.ny_resolve.specs.declared.fault.Fault.{Fault}
 use Rattle.ny_check.specs.Acceptance.{fault_of}
 use Rattle.ny_top.specs.declared.reading.Refusal.{Refusal}
 use Rattle.ny_top.specs.declared.reading.Refusal.TheVariants.{Lex, Parse, Check}
-use Rattle.ny_top.specs.Words.{Task, Command}
+use Rattle.ny_pull.specs.declared.term.Term.{Term}
+use Rattle.ny_pull.specs.declared.fault.PullFault.{PullFault}
+use Rattle.ny_pull.specs.declared.fault.PullFault.TheVariants.{PoolFull}
+use Rattle.ny_pull.specs.Engine.{EngineState}
+use Rattle.ny_top.specs.Words.{Render, Task, Command, render, check}
+use Rattle.ny_top.specs.Channel.{tree_terms}
+use Rattle.ny_top.specs.Playing.{HasPlayed, IsFullAfter}
 use Rattle.ny_top.specs.Reading.{IsTreeOf, IsAccepted, IsRefusal, refusal_text}
-use Rattle.ny_top.specs.Outcome.{Outcome, refused, tree_outcome, HasReadOutcome, HasTextOutcome, HasCommandOutcome}
+use Rattle.ny_top.specs.Outcome.{Outcome, refused, full, HasPlayOutcome, HasTermsOutcome, HasTreeOutcome, HasReadOutcome, HasTextOutcome, HasCommandOutcome}
 
 same_tokens : (text : List ℕ) (tokens others : List Token) → HasTokens text tokens → HasTokens text others → others ≡ tokens
 same_tokens text tokens others spelled again = spells-unique (length text) text tokens others spelled again
@@ -74,19 +80,46 @@ refusal_or_tree text (Parse at) tree (tokens, spelled, stops) (has, accepted) = 
 refusal_or_tree text (Check at why) tree (second, again, fault) (has, accepted) =
     no_fault (fault_of tree) (record { at = at; why = why }) accepted (ap fault_of (sym (one_tree text tree second has again)) ∙ fault)
 
-one_read : (task : Task) (text : List ℕ) (o p : Outcome) → HasReadOutcome task text o → HasReadOutcome task text p → p ≡ o
-one_read task text o p (inl (a, is, o_is)) (inl (b, again, p_is)) = p_is ∙ ap (λ r. refused (refusal_text r)) (one_refusal text a b is again) ∙ sym o_is
-one_read task text o p (inl (a, is, o_is)) (inr (tree, again, p_is)) = absurd (refusal_or_tree text a tree is again)
-one_read task text o p (inr (tree, is, o_is)) (inl (b, again, p_is)) = absurd (refusal_or_tree text b tree again is)
-one_read task text o p (inr (tree, is, o_is)) (inr (other, again, p_is)) = p_is ∙ ap (tree_outcome task) (one_tree text tree other is.0 again.0) ∙ sym o_is
+-- an engine that was pulled to its end was not spent
+played_or_full : (r : Render) (terms : List Term) (e : EngineState) (pulls : ℕ) → HasPlayed r terms e → IsFullAfter r terms pulls e → ⊥
+played_or_full r terms e pulls ended stopped = never e.spent (PoolFull pulls r.pool) ended.unspent stopped.spent
+  where
+    never : (o : Option PullFault) (fault : PullFault) → o ≡ None → o ≡ Some fault → ⊥
+    never o fault none is = cc
 
-one_text : (task : Task) (text : List ℕ) (o p : Outcome) → HasTextOutcome task text o → HasTextOutcome task text p → p ≡ o
-one_text task text o p (inl (long, o_is)) (inl (again, p_is)) = p_is ∙ sym o_is
-one_text task text o p (inl (long, o_is)) (inr (short, has)) = absurd (omega (arith, long, short))
-one_text task text o p (inr (short, has)) (inl (long, p_is)) = absurd (omega (arith, long, short))
-one_text task text o p (inr (short, has)) (inr (again, other)) = one_read task text o p has other
+same_head : (n m : ℕ) → n ∷ [] ≡ m ∷ [] → m ≡ n
+same_head n m e = sym (ap (λ xs. slice_index xs 0) e)
 
--- a command has one outcome at most
-pub one_outcome : (asked : Option Command) (files : List Named) (o p : Outcome) → HasCommandOutcome asked files o → HasCommandOutcome asked files p → p ≡ o
-one_outcome None files o p is again = again ∙ sym is
-one_outcome (Some command) files o p is again = one_text command.task (bytes_under command.from files) o p is again
+one_play : (r : Render) (terms : List Term) (e : EngineState) (o p : Outcome) → HasPlayOutcome r terms e o → HasPlayOutcome r terms e p → p ≡ o
+one_play r terms e o p (inl (ended, o_is)) (inl (again, p_is)) = p_is ∙ sym o_is
+one_play r terms e o p (inl (ended, o_is)) (inr (n, stopped, p_is)) = absurd (played_or_full r terms e n ended stopped)
+one_play r terms e o p (inr (n, stopped, o_is)) (inl (ended, p_is)) = absurd (played_or_full r terms e n ended stopped)
+one_play r terms e o p (inr (n, stopped, o_is)) (inr (m, again, p_is)) = p_is ∙ ap (full r terms) (same_head n m (sym stopped.pulls ∙ again.pulls)) ∙ sym o_is
+
+one_terms : (r : Render) (terms : Option (List Term)) (left : Option EngineState) (o p : Outcome) → HasTermsOutcome r terms left o → HasTermsOutcome r terms left p → p ≡ o
+one_terms r None left o p is again = again.1 ∙ sym is.1
+one_terms r (Some terms) None o p is again = absurd is
+one_terms r (Some terms) (Some e) o p is again = one_play r terms e o p is again
+
+one_of_tree : (task : Task) (tree : Tree) (left : Option EngineState) (o p : Outcome) → HasTreeOutcome task tree left o → HasTreeOutcome task tree left p → p ≡ o
+one_of_tree (render r) tree left o p is again = one_terms r (tree_terms r.rate tree) left o p is again
+one_of_tree check tree left o p is again = again.1 ∙ sym is.1
+
+one_read : (task : Task) (text : List ℕ) (left : Option EngineState) (o p : Outcome) → HasReadOutcome task text left o → HasReadOutcome task text left p → p ≡ o
+one_read task text left o p (inl (a, is, none, o_is)) (inl (b, again, none_again, p_is)) = p_is ∙ ap (λ r. refused (refusal_text r)) (one_refusal text a b is again) ∙ sym o_is
+one_read task text left o p (inl (a, is, none, o_is)) (inr (tree, again, p_is)) = absurd (refusal_or_tree text a tree is again)
+one_read task text left o p (inr (tree, is, o_is)) (inl (b, again, none, p_is)) = absurd (refusal_or_tree text b tree again is)
+one_read task text left o p (inr (tree, is, o_is)) (inr (other, again, p_is)) =
+    let P : Tree → Type 0 = λ t. HasTreeOutcome task t left p in
+    one_of_tree task tree left o p o_is (subst P (one_tree text tree other is.0 again.0) p_is)
+
+one_text : (task : Task) (text : List ℕ) (left : Option EngineState) (o p : Outcome) → HasTextOutcome task text left o → HasTextOutcome task text left p → p ≡ o
+one_text task text left o p (inl (long, none, o_is)) (inl (again, none_again, p_is)) = p_is ∙ sym o_is
+one_text task text left o p (inl (long, none, o_is)) (inr (short, has)) = absurd (omega (arith, long, short))
+one_text task text left o p (inr (short, has)) (inl (long, none, p_is)) = absurd (omega (arith, long, short))
+one_text task text left o p (inr (short, has)) (inr (again, other)) = one_read task text left o p has other
+
+-- a command has one outcome at most, where the same engine is left
+pub one_outcome : (asked : Option Command) (files : List Named) (left : Option EngineState) (o p : Outcome) → HasCommandOutcome asked files left o → HasCommandOutcome asked files left p → p ≡ o
+one_outcome None files left o p is again = again.1 ∙ sym is.1
+one_outcome (Some command) files left o p is again = one_text command.task (bytes_under command.from files) left o p is again

@@ -1,14 +1,16 @@
 -- What a stage of a run says of the states round it, by what the next stage says.
-use Rattle.std.proofs.Common.{◌≡◌, ℕ, ◌≤◌, ◌<◌, ◌⊎◌, List, length, take, refl, sym, subst, ap, ◌∙◌, arith, None, Some, IfSome, inl, inr}
+use Rattle.std.proofs.Common.{◌≡◌, ℕ, ◌≤◌, ◌<◌, ◌⊎◌, List, [], length, take, refl, sym, subst, ap, ◌∙◌, arith, None, Some, IfSome, inl, inr}
 use Rattle.std.specs.declared.option.Option.{Option}
 use Rattle.std.specs.Io.KnownBytes.{append_known}
 use Rattle.ny_io.specs.Faults.{Rose}
 use Rattle.ny_io.specs.Host.{HostState, Named, NoneFell, bytes_under, added}
 use Rattle.ny_syntax.specs.declared.tree.Tree.{Tree}
+use Rattle.ny_pull.specs.Engine.{EngineState}
+use Rattle.ny_top.specs.Channel.{file_of}
 use Rattle.ny_top.specs.declared.status.Status.{Status}
 use Rattle.ny_top.specs.Words.{Task, Command, render, check, read_words}
 use Rattle.ny_top.specs.Outcome.{Outcome, most, refused, too_long_line, create_line, usage_outcome, HasReadOutcome, HasTextOutcome, HasCommandOutcome, HasOutcome}
-use Rattle.ny_top.specs.Ends.{made, IsOutcome, EndsAs, ToldAs, FaultTold, WriteTold, CreateTold, MadeTree, MadeText, Makes}
+use Rattle.ny_top.specs.Ends.{made, IsOutcome, EndsAs, ToldAs, FaultTold, WriteTold, CreateTold, MadePart, MadeTree, MadeText, Makes}
 use Rattle.ny_top.proofs.FaultLines.{told_from}
 
 -- Between two states a text was read, and nothing was created or printed.
@@ -28,19 +30,19 @@ outcome_from o status old mid new same ended =
     (ended.0, ended.1 ∙ ap (made o.file) same.created, ended.2 ∙ ap (λ known. append_known known o.printed) same.printed)
 
 -- a text that was read whole ends as its outcome says
-pub ends_read : (task : Task) (from text : List ℕ) (status : Status) (old mid new : HostState) → Untouched old mid
-    → IfSome old.files (λ files. text ≡ bytes_under from files) → length text ≤ most → EndsAs (HasReadOutcome task text) status mid new
-    → IfSome old.files (λ files. EndsAs (HasTextOutcome task (bytes_under from files)) status old new)
-ends_read task from text status old mid new same whole short ended = by_files old.files whole
+pub ends_read : (task : Task) (from text : List ℕ) (left : Option EngineState) (status : Status) (old mid new : HostState) → Untouched old mid
+    → IfSome old.files (λ files. text ≡ bytes_under from files) → length text ≤ most → EndsAs (HasReadOutcome task text left) status mid new
+    → IfSome old.files (λ files. EndsAs (HasTextOutcome task (bytes_under from files) left) status old new)
+ends_read task from text left status old mid new same whole short ended = by_files old.files whole
   where
     by_files : (files : Option (List Named)) → IfSome files (λ files. text ≡ bytes_under from files)
-        → IfSome files (λ files. EndsAs (HasTextOutcome task (bytes_under from files)) status old new)
+        → IfSome files (λ files. EndsAs (HasTextOutcome task (bytes_under from files) left) status old new)
     by_files None is = tt
     by_files (Some files) is =
-        let P : List ℕ → Type 0 = λ bytes. EndsAs (HasTextOutcome task bytes) status old new in
+        let P : List ℕ → Type 0 = λ bytes. EndsAs (HasTextOutcome task bytes left) status old new in
         subst P is (ended.0, inr (short, ended.1), outcome_from ended.0 status old mid new same ended.2)
 
-rose_from : (before mid now : ℕ) → before ≤ mid → Rose mid now → Rose before now
+pub rose_from : (before mid now : ℕ) → before ≤ mid → Rose mid now → Rose before now
 rose_from before mid now later rose = omega (arith, later, rose)
 
 create_from : (task : Task) (old mid new : HostState) → Untouched old mid → CreateTold task mid new → CreateTold task old new
@@ -50,30 +52,34 @@ create_from (render r) old mid new same told = (
   told_from (create_line r.to) old mid new same.counts.writes same.printed told.1,
 )
 
-told_read : (task : Task) (from text : List ℕ) (old mid new : HostState) → Untouched old mid
-    → IfSome old.files (λ files. text ≡ bytes_under from files) → length text ≤ most → ToldAs (HasReadOutcome task text) mid new
-    → IfSome old.files (λ files. ToldAs (HasTextOutcome task (bytes_under from files)) old new)
-told_read task from text old mid new same whole short told = by_files old.files whole
+told_read : (task : Task) (from text : List ℕ) (left : Option EngineState) (old mid new : HostState) → Untouched old mid
+    → IfSome old.files (λ files. text ≡ bytes_under from files) → length text ≤ most → ToldAs (HasReadOutcome task text left) mid new
+    → IfSome old.files (λ files. ToldAs (HasTextOutcome task (bytes_under from files) left) old new)
+told_read task from text left old mid new same whole short told = by_files old.files whole
   where
     by_files : (files : Option (List Named)) → IfSome files (λ files. text ≡ bytes_under from files)
-        → IfSome files (λ files. ToldAs (HasTextOutcome task (bytes_under from files)) old new)
+        → IfSome files (λ files. ToldAs (HasTextOutcome task (bytes_under from files) left) old new)
     by_files None is = tt
     by_files (Some files) is =
-        let P : List ℕ → Type 0 = λ bytes. ToldAs (HasTextOutcome task bytes) old new in
+        let P : List ℕ → Type 0 = λ bytes. ToldAs (HasTextOutcome task bytes left) old new in
         subst P is (told.0, inr (short, told.1), told_from told.0.printed old mid new same.counts.writes same.printed told.2)
 
 -- where a write failed after a text was read
-pub write_told : (command : Command) (text : List ℕ) (old mid new : HostState) → Untouched old mid
+pub write_told : (command : Command) (text : List ℕ) (left : Option EngineState) (old mid new : HostState) → Untouched old mid
     → IfSome old.files (λ files. text ≡ bytes_under command.from files) → length text ≤ most
-    → ToldAs (HasReadOutcome command.task text) mid new ⊎ CreateTold command.task mid new → WriteTold command old new
-write_told command text old mid new same whole short (inl told) = inl (told_read command.task command.from text old mid new same whole short told)
-write_told command text old mid new same whole short (inr told) = inr (inr (inr (create_from command.task old mid new same told)))
+    → FaultTold [] mid new ⊎ ToldAs (HasReadOutcome command.task text left) mid new ⊎ CreateTold command.task mid new → WriteTold command left old new
+write_told command text left old mid new same whole short (inl told) = inl (told_from [] old mid new same.counts.writes same.printed told)
+write_told command text left old mid new same whole short (inr (inl told)) = inr (inl (told_read command.task command.from text left old mid new same whole short told))
+write_told command text left old mid new same whole short (inr (inr told)) = inr (inr (inr (inr (create_from command.task old mid new same told))))
+
+made_from : (to bytes : List ℕ) (old mid new : HostState) → mid.created ≡ old.created → MadePart to bytes mid new → MadePart to bytes old new
+made_from to bytes old mid new same (inl made) = inl (made ∙ same)
+made_from to bytes old mid new same (inr made) = inr (made.0, made.1 ∙ ap (added (to, take made.0 bytes)) same)
 
 made_tree : (task : Task) (tree : Tree) (old mid new : HostState) → mid.created ≡ old.created → MadeTree task tree mid new → MadeTree task tree old new
 made_tree check tree old mid new same made = made ∙ same
 made_tree (render r) tree old mid new same (inl made) = inl (made ∙ same)
-made_tree (render r) tree old mid new same (inr made) =
-    inr (made.0, made.1, made.2, made.3 ∙ ap (added (r.to, take made.1 made.0)) same)
+made_tree (render r) tree old mid new same (inr made) = inr (made.0, made.1, made_from r.to (file_of r.rate made.0) old mid new same made.2)
 
 -- what is made of a text that was read
 pub makes_read : (command : Command) (text : List ℕ) (old mid new : HostState) → Untouched old mid
@@ -83,34 +89,34 @@ makes_read command text old mid new same whole (inr made) =
     inr (text, whole, inr (made.0, made.1, made_tree command.task made.0 old mid new same.created made.2))
 
 -- a file that is too long is refused, once its line was printed
-pub too_long_ends : (task : Task) (from : List ℕ) (status : Status) (old new : HostState)
+pub too_long_ends : (task : Task) (from : List ℕ) (left : Option EngineState) (status : Status) (old new : HostState) → left ≡ None
     → IfSome old.files (λ files. most < length (bytes_under from files)) → IsOutcome (refused too_long_line) status old new
-    → IfSome old.files (λ files. EndsAs (HasTextOutcome task (bytes_under from files)) status old new)
-too_long_ends task from status old new long ended = by_files old.files long
+    → IfSome old.files (λ files. EndsAs (HasTextOutcome task (bytes_under from files) left) status old new)
+too_long_ends task from left status old new none long ended = by_files old.files long
   where
     by_files : (files : Option (List Named)) → IfSome files (λ files. most < length (bytes_under from files))
-        → IfSome files (λ files. EndsAs (HasTextOutcome task (bytes_under from files)) status old new)
+        → IfSome files (λ files. EndsAs (HasTextOutcome task (bytes_under from files) left) status old new)
     by_files None long = tt
-    by_files (Some files) long = (refused too_long_line, inl (long, refl), ended)
+    by_files (Some files) long = (refused too_long_line, inl (long, none, refl), ended)
 
 -- or its line was begun
-pub too_long_told : (task : Task) (from : List ℕ) (old new : HostState)
+pub too_long_told : (task : Task) (from : List ℕ) (left : Option EngineState) (old new : HostState) → left ≡ None
     → IfSome old.files (λ files. most < length (bytes_under from files)) → FaultTold too_long_line old new
-    → IfSome old.files (λ files. ToldAs (HasTextOutcome task (bytes_under from files)) old new)
-too_long_told task from old new long told = by_files old.files long
+    → IfSome old.files (λ files. ToldAs (HasTextOutcome task (bytes_under from files) left) old new)
+too_long_told task from left old new none long told = by_files old.files long
   where
     by_files : (files : Option (List Named)) → IfSome files (λ files. most < length (bytes_under from files))
-        → IfSome files (λ files. ToldAs (HasTextOutcome task (bytes_under from files)) old new)
+        → IfSome files (λ files. ToldAs (HasTextOutcome task (bytes_under from files) left) old new)
     by_files None long = tt
-    by_files (Some files) long = (refused too_long_line, inl (long, refl), told)
+    by_files (Some files) long = (refused too_long_line, inl (long, none, refl), told)
 
 -- words that are no command end with the line of usage
-pub usage_ends : (words : List (List ℕ)) (status : Status) (old new : HostState) → read_words words ≡ None → IsOutcome usage_outcome status old new
-    → IfSome old.files (λ files. EndsAs (HasOutcome words files) status old new)
-usage_ends words status old new none ended = by_files old.files
+pub usage_ends : (words : List (List ℕ)) (left : Option EngineState) (status : Status) (old new : HostState) → read_words words ≡ None → left ≡ None → IsOutcome usage_outcome status old new
+    → IfSome old.files (λ files. EndsAs (HasOutcome words files left) status old new)
+usage_ends words left status old new none left_none ended = by_files old.files
   where
-    by_files : (files : Option (List Named)) → IfSome files (λ files. EndsAs (HasOutcome words files) status old new)
+    by_files : (files : Option (List Named)) → IfSome files (λ files. EndsAs (HasOutcome words files left) status old new)
     by_files None = tt
     by_files (Some files) =
-        let P : Option Command → Type 0 = λ command. EndsAs (HasCommandOutcome command files) status old new in
-        subst P (sym none) (usage_outcome, refl, ended)
+        let P : Option Command → Type 0 = λ command. EndsAs (HasCommandOutcome command files left) status old new in
+        subst P (sym none) (usage_outcome, (left_none, refl), ended)

@@ -2,8 +2,8 @@
 use Rattle.std.proofs.Common.{◌≡◌, ℕ, ◌+◌, ◌≤◌, ◌<◌, List, [], ◌∷◌, ◌++◌, length, take, get_or, map, max, arith, sym, ap, refl}
 use Rattle.std.proofs.lemmas.List.{take_more}
 use Rattle.ny_top.specs.declared.constant.Written.{Written}
-use Rattle.ny_top.specs.declared.term.Term.{Term}
-use Rattle.ny_top.specs.Channel.{longest}
+use Rattle.ny_pull.specs.declared.term.Term.{Term}
+use Rattle.ny_pull.specs.Channel.{longest}
 
 pub longest-append : (terms others : List Term) → longest (terms ++ others) ≡ max (longest terms) (longest others)
 longest-append [] others = omega arith

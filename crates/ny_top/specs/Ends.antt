@@ -1,11 +1,14 @@
 -- What stands at the end of a run, whatever failed.
-use Rattle.std.specs.Prelude.{ℕ, ◌≡◌, ◌≤◌, ◌+◌, ◌-◌, ◌^◌, ◌⊎◌, List, take, min, IfSome, None, Some, Bool, true, false}
+use Rattle.std.specs.Prelude.{ℕ, ◌≡◌, ◌≤◌, ◌+◌, ◌-◌, ◌^◌, ◌⊎◌, List, [], take, min, IfSome, IsSomeAnd, None, Some, Bool, true, false}
 use Rattle.std.specs.declared.option.Option.{Option}
 use Rattle.std.specs.Io.KnownBytes.{append_known}
 use Rattle.ny_io.specs.Faults.{Rose}
 use Rattle.ny_io.specs.Host.{Named, HostState, added, bytes_under}
 use Rattle.ny_syntax.specs.declared.tree.Tree.{Tree}
-use Rattle.ny_top.specs.Channel.{tree_file}
+use Rattle.ny_pull.specs.Engine.{EngineState}
+use Rattle.ny_pull.specs.declared.term.Term.{Term}
+use Rattle.ny_top.specs.Channel.{tree_terms, file_of}
+use Rattle.ny_top.specs.Playing.{IsPoolFull}
 use Rattle.ny_top.specs.Reading.{IsAccepted}
 use Rattle.ny_top.specs.Words.{Task, Command, render, check}
 use Rattle.ny_top.specs.Outcome.{Outcome, usage_line, open_line, read_line, create_line, write_line, HasTextOutcome}
@@ -62,7 +65,7 @@ abbrev pub MadeTree : Task → Tree → HostState → HostState → Type 0
 MadeTree check tree old new = new.created ≡ old.created
 MadeTree (render r) tree old new =
     (new.created ≡ old.created)
-    ⊎ ((bytes : List ℕ) × (count : ℕ) × (tree_file r.rate tree ≡ Some bytes) × (new.created ≡ added (r.to, take count bytes) old.created))
+    ⊎ ((terms : List Term) × (tree_terms r.rate tree ≡ Some terms) × MadePart r.to (file_of r.rate terms) old new)
 
 -- the same of the tree that a text has, if it is accepted
 abbrev pub MadeText : Task → List ℕ → HostState → HostState → Type 0
@@ -93,11 +96,12 @@ EndsAs Has status old new = (o : Outcome) × Has o × IsOutcome o status old new
 abbrev pub ToldAs : (Outcome → Type 0) → HostState → HostState → Type 0
 ToldAs Has old new = (o : Outcome) × Has o × FaultTold o.printed old new
 
--- What is printed where a write failed: a first part of the outcome's bytes, or of the line of another fault, and then
--- the line of the write.
-abbrev pub WriteTold : Command → HostState → HostState → Type 0
-WriteTold command old new =
-    IfSome old.files (λ files. ToldAs (HasTextOutcome command.task (bytes_under command.from files)) old new)
+-- What is printed where a write failed: nothing, a first part of the outcome's bytes, or of the line of another fault,
+-- and then the line of the write.
+abbrev pub WriteTold : Command → Option EngineState → HostState → HostState → Type 0
+WriteTold command left old new =
+    FaultTold [] old new
+    ⊎ IfSome old.files (λ files. ToldAs (HasTextOutcome command.task (bytes_under command.from files) left) old new)
     ⊎ (Rose (old.opens command.from) (new.opens command.from) × FaultTold (open_line command.from) old new)
     ⊎ (Rose (old.reads command.from) (new.reads command.from) × FaultTold (read_line command.from) old new)
     ⊎ CreateTold command.task old new
@@ -128,11 +132,16 @@ NoneRose (Some command) old new =
     × (Rose old.writes new.writes → ⊥)
 
 -- what is printed where a write failed, also where the words are no command
-abbrev pub RunWriteTold : Option Command → HostState → HostState → Type 0
-RunWriteTold None old new = FaultTold usage_line old new
-RunWriteTold (Some command) old new = WriteTold command old new
+abbrev pub RunWriteTold : Option Command → Option EngineState → HostState → HostState → Type 0
+RunWriteTold None left old new = FaultTold usage_line old new
+RunWriteTold (Some command) left old new = WriteTold command left old new
 
 -- a file is made only for a command
 abbrev pub RunMakes : Option Command → HostState → HostState → Type 0
 RunMakes None old new = new.created ≡ old.created
 RunMakes (Some command) old new = Makes command old new
+
+-- the pool of the engine that a task leaves is full
+abbrev pub TaskPoolFull : Task → Option EngineState → Type 0
+TaskPoolFull check left = ⊥
+TaskPoolFull (render r) left = IsSomeAnd left (λ e. IsPoolFull r e)

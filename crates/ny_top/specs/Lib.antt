@@ -2,7 +2,8 @@ pub mod Channel
 pub mod Ends
 pub mod Outcome
 pub mod Reading
-pub mod Runs
+pub mod Rounds
+pub mod Playing
 pub mod Form
 pub mod Views
 pub mod Words

@@ -1,13 +1,17 @@
 -- What a run does over a host that never fails.
-use Rattle.std.specs.Prelude.{◌≡◌, ℕ, ◌≤◌, ◌<◌, ◌⊎◌, List, [], ◌∷◌, ◌++◌, length, Some, None, codes}
+use Rattle.std.specs.Prelude.{◌≡◌, ◌≢◌, ℕ, ◌*◌, ◌≤◌, ◌<◌, ◌⊎◌, List, [], ◌∷◌, ◌++◌, length, Some, None, codes}
 use Rattle.std.specs.declared.option.Option.{Option}
 use Rattle.ny_io.specs.Host.{Named, bytes_under}
 use Rattle.ny_syntax.specs.declared.tree.Tree.{Tree}
 use Rattle.ny_syntax.specs.Canonical.{canonical_text}
 use Rattle.ny_top.specs.declared.reading.Refusal.{Refusal}
 use Rattle.ny_top.specs.Reading.{IsAccepted, IsRefusal, refusal_text}
-use Rattle.ny_top.specs.Channel.{tree_file}
-use Rattle.ny_top.specs.Words.{Task, Command, render, check, read_words}
+use Rattle.ny_report.specs.Lines.{full_line_of}
+use Rattle.ny_pull.specs.declared.term.Term.{Term}
+use Rattle.ny_pull.specs.Engine.{EngineState}
+use Rattle.ny_top.specs.Channel.{tree_terms, file_of, first_frames}
+use Rattle.ny_top.specs.Playing.{HasPlayed, IsFullAfter}
+use Rattle.ny_top.specs.Words.{Render, Task, Command, render, check, read_words}
 use Rattle.ny_top.specs.declared.status.Status.{Status}
 use Rattle.ny_top.specs.declared.status.Status.TheVariants.{Ok, Usage, OpenFault, ReadFault, WriteFault, Refused, PoolFull, OutOfMemory}
 
@@ -61,40 +65,63 @@ pub record Outcome : Type 0 where
 abbrev pub refused : List ℕ → Outcome
 refused line = record { status = Refused; file = None; printed = line }
 
--- the outcome for the file of a program, or for one that can't be played yet
-abbrev pub file_outcome : List ℕ → Option (List ℕ) → Outcome
-file_outcome to None = refused form_line
-file_outcome to (Some bytes) = record { status = Ok; file = Some (to, bytes); printed = [] }
+-- the whole file, and nothing printed
+abbrev pub played : Render → List Term → Outcome
+played r terms = record { status = Ok; file = Some (r.to, file_of r.rate terms); printed = [] }
+
+-- the header of the whole file, the frames of so many rounds, and the line of a full pool
+abbrev pub full : Render → List Term → ℕ → Outcome
+full r terms pulls =
+    record { status = PoolFull; file = Some (r.to, first_frames r.rate terms (pulls * r.block)); printed = full_line_of pulls }
+
+-- the outcome for these terms and the engine that is left, which tells whether they were played to the end
+abbrev pub HasPlayOutcome : Render → List Term → EngineState → Outcome → Type 0
+HasPlayOutcome r terms e o =
+    (HasPlayed r terms e × (o ≡ played r terms)) ⊎ ((pulls : ℕ) × IsFullAfter r terms pulls e × (o ≡ full r terms pulls))
+
+-- the outcome for the terms of a program and the engine that is left; a program that can't be played yet is refused
+abbrev pub HasTermsOutcome : Render → Option (List Term) → Option EngineState → Outcome → Type 0
+HasTermsOutcome r None left o = (left ≡ None) × (o ≡ refused form_line)
+HasTermsOutcome r (Some terms) None o = ⊥
+HasTermsOutcome r (Some terms) (Some e) o = HasPlayOutcome r terms e o
+
+-- the canonical text, and no file
+abbrev pub checked : Tree → Outcome
+checked tree = record { status = Ok; file = None; printed = canonical_text tree }
 
 -- the outcome for an accepted tree
-abbrev pub tree_outcome : Task → Tree → Outcome
-tree_outcome (render r) tree = file_outcome r.to (tree_file r.rate tree)
-tree_outcome check tree = record { status = Ok; file = None; printed = canonical_text tree }
+abbrev pub HasTreeOutcome : Task → Tree → Option EngineState → Outcome → Type 0
+HasTreeOutcome (render r) tree left o = HasTermsOutcome r (tree_terms r.rate tree) left o
+HasTreeOutcome check tree left o = (left ≡ None) × (o ≡ checked tree)
 
 -- the outcome for a text that is not too long: that of its tree, where it is accepted, or its refusal
-abbrev pub HasReadOutcome : Task → List ℕ → Outcome → Type 0
-HasReadOutcome task text o =
-    ((refusal : Refusal) × IsRefusal text refusal × (o ≡ refused (refusal_text refusal)))
-    ⊎ ((tree : Tree) × IsAccepted text tree × (o ≡ tree_outcome task tree))
+abbrev pub HasReadOutcome : Task → List ℕ → Option EngineState → Outcome → Type 0
+HasReadOutcome task text left o =
+    ((refusal : Refusal) × IsRefusal text refusal × (left ≡ None) × (o ≡ refused (refusal_text refusal)))
+    ⊎ ((tree : Tree) × IsAccepted text tree × HasTreeOutcome task tree left o)
 
 -- the outcome for a text
-abbrev pub HasTextOutcome : Task → List ℕ → Outcome → Type 0
-HasTextOutcome task text o =
-    ((most < length text) × (o ≡ refused too_long_line)) ⊎ ((length text ≤ most) × HasReadOutcome task text o)
+abbrev pub HasTextOutcome : Task → List ℕ → Option EngineState → Outcome → Type 0
+HasTextOutcome task text left o =
+    ((most < length text) × (left ≡ None) × (o ≡ refused too_long_line)) ⊎ ((length text ≤ most) × HasReadOutcome task text left o)
 
 -- the outcome where the words are no command
 abbrev pub usage_outcome : Outcome
 usage_outcome = record { status = Usage; file = None; printed = usage_line }
 
 -- the outcome for a command, over files
-abbrev pub HasCommandOutcome : Option Command → List Named → Outcome → Type 0
-HasCommandOutcome None files o = o ≡ usage_outcome
-HasCommandOutcome (Some command) files o = HasTextOutcome command.task (bytes_under command.from files) o
+abbrev pub HasCommandOutcome : Option Command → List Named → Option EngineState → Outcome → Type 0
+HasCommandOutcome None files left o = (left ≡ None) × (o ≡ usage_outcome)
+HasCommandOutcome (Some command) files left o = HasTextOutcome command.task (bytes_under command.from files) left o
 
--- the outcome for words, over files
-abbrev pub HasOutcome : List (List ℕ) → List Named → Outcome → Type 0
-HasOutcome words files o = HasCommandOutcome (read_words words) files o
+-- the outcome for words, over files, where this engine is left
+abbrev pub HasOutcome : List (List ℕ) → List Named → Option EngineState → Outcome → Type 0
+HasOutcome words files left o = HasCommandOutcome (read_words words) files left o
 
 -- the text of the command is refused
 abbrev pub IsRefused : Option Command → List Named → Type 0
-IsRefused command files = (o : Outcome) × HasCommandOutcome command files o × (o.status ≡ Refused)
+IsRefused command files = (o : Outcome) × HasCommandOutcome command files None o × (o.status ≡ Refused)
+
+-- no refusal applies: the words are a command, and its text is not refused
+abbrev pub IsUnrefused : Option Command → List Named → Type 0
+IsUnrefused command files = (command ≢ None) × (IsRefused command files → ⊥)

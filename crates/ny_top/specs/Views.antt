@@ -1,12 +1,16 @@
 -- A command of the program, as what it asks for.
-use Rattle.ny_top.specs.Words.{Task as TaskView, Command as CommandView, render, check, command_of}
+use Rattle.ny_top.specs.Words.{Render as RenderView, Task as TaskView, Command as CommandView, render, check, command_of}
+use Rattle.ny_top.specs.declared.words.Render.{Render}
 use Rattle.ny_top.specs.declared.words.Task.{Task}
 use Rattle.ny_top.specs.declared.words.Task.TheVariants as tasks
 use Rattle.ny_top.specs.declared.words.Command.{Command}
 
 -- what is asked for, without the places where names stand
+abbrev pub render_view : Render → RenderView
+render_view r = record { to = r.output.now; pool = r.pool; block = r.block; rate = r.rate }
+
 abbrev pub task_view : Task → TaskView
-task_view (tasks.Render r) = render (record { to = r.output.now; block = r.block; rate = r.rate })
+task_view (tasks.Render r) = render (render_view r)
 task_view tasks.Check = check
 
 abbrev pub command_view : Command → CommandView

@@ -1,27 +1,39 @@
-ghost use Rattle.std.specs.Prelude.{◌≡◌, ◌≢◌, ◌⊎◌, List, None, map, string_bytes, IsTrue, IfSome, IsSomeAnd};
+ghost use Rattle.std.specs.Prelude.{◌≡◌, ◌≢◌, ◌⊎◌, List, Option, None, map, string_bytes, IsTrue, IfSome, IsSomeAnd};
 ghost use Rattle.ny_io.specs.Faults.{Rose};
 ghost use Rattle.ny_io.specs.Host.{NoneFell, Named};
-ghost use Rattle.ny_top.specs.Outcome.{Outcome, HasOutcome, IsRefused};
+ghost use Rattle.ny_pull.specs.Engine.{EngineState};
+ghost use Rattle.ny_top.specs.Outcome.{Outcome, HasOutcome, IsRefused, IsUnrefused};
 ghost use Rattle.ny_top.specs.Words.{read_words};
-ghost use Rattle.ny_top.specs.Ends.{OpenCause, ReadCause, NoneRose, RunWriteTold, RunMakes, EndsAs, is_whole};
+ghost use Rattle.ny_top.specs.Ends.{OpenCause, ReadCause, NoneRose, RunWriteTold, RunMakes, EndsAs, TaskPoolFull, is_whole};
 
 use crate::ends::finish;
 use crate::names::run_names;
 use crate::status::Status;
 use crate::words::read_command;
 use ny_io::Host;
+use ny_pull::Engine;
 use std::alloc::Global;
 
 /// Runs the command of the words, without the program's name, over a host
 /// (`docs/LANGUAGE.md`, "The command line"; `docs/DEFINITIONS.md`, "The outcome of a run").
-pub fn run<H: Host>(alloc: Global, words: &[String], host: &mut H) -> Status
+///
+/// `left` keeps the engine that was pulled, from its opening on; it is none at entry. It tells how far
+/// the piece was played: to its end, or to a full pool.
+pub fn run<H: Host>(
+    alloc: Global,
+    words: &[String],
+    host: &mut H,
+    left: &mut Option<Engine>,
+) -> Status
+    requires { left.old ≡ None }
+
     // Where no fault was counted, the run ends as its outcome says, or for want of memory.
     ensures outcome { NoneRose (read_words (map string_bytes words.now)) (H.state host.old) (H.state host.new) → result ≢ Status.OutOfMemory
-        → IfSome (H.state host.old).files (λ files. EndsAs (HasOutcome (map string_bytes words.now) files) result (H.state host.old) (H.state host.new)) }
+        → IfSome (H.state host.old).files (λ files. EndsAs (HasOutcome (map string_bytes words.now) files left.new) result (H.state host.old) (H.state host.new)) }
 
     // A status that no fault brings is the outcome's, whatever failed.
     ensures whole { IsTrue (is_whole result)
-        → IfSome (H.state host.old).files (λ files. EndsAs (HasOutcome (map string_bytes words.now) files) result (H.state host.old) (H.state host.new)) }
+        → IfSome (H.state host.old).files (λ files. EndsAs (HasOutcome (map string_bytes words.now) files left.new) result (H.state host.old) (H.state host.new)) }
 
     // Each answer has its cause; the line of a file's fault is printed whole.
     ensures cause_usage { result ≡ Status.Usage → read_words (map string_bytes words.now) ≡ None }
@@ -31,28 +43,32 @@ pub fn run<H: Host>(alloc: Global, words: &[String], host: &mut H) -> Status
     ensures cause_write { result ≡ Status.WriteFault → Rose (H.state host.old).writes (H.state host.new).writes }
     ensures cause_refused { result ≡ Status.Refused
         → IfSome (H.state host.old).files (λ files. IsRefused (read_words (map string_bytes words.now)) files) }
-    ensures cause_pool_full { result ≢ Status.PoolFull }
+    // The pool that the words ask for is full only where all its blocks are taken and a fill found none free.
+    ensures cause_pool_full { result ≡ Status.PoolFull
+        → IsSomeAnd (read_words (map string_bytes words.now)) (λ command. TaskPoolFull command.task left.new) }
 
     // At most one file is created, for a command alone, and it holds a first part of the one WAV file.
     ensures prefix { RunMakes (read_words (map string_bytes words.now)) (H.state host.old) (H.state host.new) }
 
     // What is printed where a write failed, and where memory was wanting.
-    ensures printed_fault { result ≡ Status.WriteFault → RunWriteTold (read_words (map string_bytes words.now)) (H.state host.old) (H.state host.new) }
+    ensures printed_fault { result ≡ Status.WriteFault → RunWriteTold (read_words (map string_bytes words.now)) left.new (H.state host.old) (H.state host.new) }
     ensures printed_memory { result ≡ Status.OutOfMemory → (H.state host.new).printed ≡ (H.state host.old).printed }
 
-    // Where nothing is refused and no fault was counted, the answer is Ok, or want of memory.
+    // Where no refusal applies and no fault was counted, the answer is Ok, want of memory, or a full pool with its cause.
     ensures complete { NoneRose (read_words (map string_bytes words.now)) (H.state host.old) (H.state host.new)
-        → IfSome (H.state host.old).files (λ files. (o : Outcome) → HasOutcome (map string_bytes words.now) files o → o.status ≡ Status.Ok
-        → (result ≡ Status.Ok) ⊎ (result ≡ Status.OutOfMemory)) }
+        → IfSome (H.state host.old).files (λ files. IsUnrefused (read_words (map string_bytes words.now)) files
+        → (result ≡ Status.Ok) ⊎ (result ≡ Status.OutOfMemory)
+        ⊎ ((result ≡ Status.PoolFull) × IsSomeAnd (read_words (map string_bytes words.now)) (λ command. TaskPoolFull command.task left.new))) }
 
-    // Words have one outcome at most over the same files.
-    ensures one_outcome { (files : List Named) (o other : Outcome) → HasOutcome (map string_bytes words.now) files o → HasOutcome (map string_bytes words.now) files other → other ≡ o }
+    // Words have one outcome at most over the same files, where the same engine is left.
+    ensures one_outcome { (files : List Named) (e : Option EngineState) (o other : Outcome)
+        → HasOutcome (map string_bytes words.now) files e o → HasOutcome (map string_bytes words.now) files e other → other ≡ o }
 
     ensures counts { NoneFell (H.state host.old) (H.state host.new) }
     ensures files { (H.state host.new).files ≡ (H.state host.old).files }
 {
     match read_command(words) {
-        Some(command) => run_names(alloc, host, command),
+        Some(command) => run_names(alloc, host, command, left),
         None => finish(host, Status::Usage, b"fault: usage\n"),
     }
 }

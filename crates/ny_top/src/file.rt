@@ -1,63 +1,102 @@
-ghost use Rattle.std.specs.Prelude.{◌≡◌, ◌≢◌, ◌≤◌, ◌⊎◌, ◌++◌, [], ℕ, Some, take, OnOk, OnErr};
+ghost use Rattle.std.specs.Prelude.{◌≡◌, ◌≢◌, ◌*◌, ◌⊎◌, [], Some, length, IfErr, OnOk, OnErr, IsTrue};
 ghost use Rattle.std.specs.Io.KnownBytes.{append_known};
 ghost use Rattle.ny_io.specs.Faults.{Rose};
-ghost use Rattle.ny_io.specs.Host.{NoneFell, written, added};
-ghost use Rattle.ny_top.specs.Outcome.{create_line};
-ghost use Rattle.ny_top.specs.Ends.{FaultTold, MadePart};
+ghost use Rattle.ny_io.specs.Host.{NoneFell};
+ghost use Rattle.ny_top.specs.Channel.{file_of};
+ghost use Rattle.ny_top.specs.Outcome.{create_line, HasPlayOutcome};
+ghost use Rattle.ny_top.specs.Playing.{IsNew, IsPoolFull};
+ghost use Rattle.ny_top.specs.Rounds.{IsPulledOut, EndsFile, Wrote, WrotePart};
+ghost use Rattle.ny_top.specs.Ends.{FaultTold, ToldAs, EndsAs, MadePart, is_whole};
+ghost use Rattle.ny_top.specs.Views.{render_view};
 
-use crate::ends::{end_at, tell_fault};
+use crate::ends::{end_at, end_full, tell_fault};
+use crate::rounds::{Buffers, RoundFault, rounds};
 use crate::status::Status;
-use ny_io::{Failed, Host, write_all};
+use crate::words::Render;
+use ny_io::{Host, write_all};
+use ny_pull::Engine;
+use ny_wav::header;
 use std::alloc::Global;
 
-/// Writes the header and then the frames; at `Failed` a first part of them.
-#[tactic(auto, using(crate::proofs::Parts::in_parts))]
-fn write_parts<H: Host>(host: &mut H, file: u32, header: &[u8], frames: &[u8]) -> Result<(), Failed>
-    requires { (H.state host.old).output ≡ Some file }
+/// Writes the header of the whole file by one call, and then the rounds.
+fn write_parts<H: Host>(
+    alloc: Global,
+    host: &mut H,
+    file: u32,
+    render: Render,
+    engine: &mut Engine,
+    buffers: &mut Buffers,
+) -> Result<(), RoundFault>
+    requires open { (H.state host.old).output ≡ Some file }
+    requires new { IsNew (render_view render) engine.old }
+    requires samples { length buffers.old.samples.items ≡ render.block }
+    requires bytes { length buffers.old.bytes.items ≡ 2 * render.block }
     ensures counts { NoneFell (H.state host.old) (H.state host.new) }
-    ensures cause { OnErr result (Rose (H.state host.old).writes (H.state host.new).writes) }
-    ensures whole { OnOk result ((H.state host.new).created ≡ written (header.now ++ frames.now) (H.state host.old).created) }
-    ensures part { OnErr result ((done : ℕ) × ((H.state host.new).created ≡ written (take done (header.now ++ frames.now)) (H.state host.old).created)) }
+    ensures played { OnOk result (IsPulledOut engine.old engine.new) }
+    ensures whole { OnOk result (Wrote (file_of render.entry.rate engine.old.terms) (H.state host.old) (H.state host.new)) }
+    ensures fault { IfErr result (λ fault. EndsFile engine.old engine.new (H.state host.old) (H.state host.new) fault) }
+    ensures part { OnErr result (WrotePart (file_of render.entry.rate engine.old.terms) (H.state host.old) (H.state host.new)) }
     ensures files { (H.state host.new).files ≡ (H.state host.old).files }
     ensures printed { (H.state host.new).printed ≡ (H.state host.old).printed }
 {
-    write_all(host, file, header)?;
-    write_all(host, file, frames)?;
-    Ok(())
+    let head = header(1, render.rate, 16, engine.frames());
+    match write_all(host, file, &head) {
+        Ok(()) => rounds(
+            alloc,
+            host,
+            file,
+            engine,
+            buffers.samples.as_mut_slice(),
+            buffers.bytes.as_mut_slice(),
+        ),
+        Err(_) => Err(RoundFault::Write),
+    }
 }
 
-/// Creates the output and writes a file's header and frames to it.
-#[tactic(auto, using(crate::proofs::Parts::in_file))]
+/// Creates the output and plays an engine into it that was just opened.
 pub(crate) fn write_file<H: Host>(
     alloc: Global,
     host: &mut H,
-    to: &str,
-    header: &[u8],
-    frames: &[u8],
+    render: Render,
+    engine: &mut Engine,
+    buffers: &mut Buffers,
 ) -> Status
+    requires new { IsNew (render_view render) engine.old }
+    requires samples { length buffers.old.samples.items ≡ render.block }
+    requires bytes { length buffers.old.bytes.items ≡ 2 * render.block }
     ensures counts { NoneFell (H.state host.old) (H.state host.new) }
     ensures files { (H.state host.new).files ≡ (H.state host.old).files }
-    ensures status { (result ≢ Status.Usage) × (result ≢ Status.ReadFault) × (result ≢ Status.Refused) × (result ≢ Status.PoolFull) }
-    ensures whole { result ≡ Status.Ok → ((H.state host.new).created ≡ added (to.now, header.now ++ frames.now) (H.state host.old).created)
-        × ((H.state host.new).printed ≡ (H.state host.old).printed) }
-    ensures create { result ≡ Status.OpenFault → Rose ((H.state host.old).creates to.now) ((H.state host.new).creates to.now)
-        × ((H.state host.new).printed ≡ append_known (H.state host.old).printed (create_line to.now)) }
+    ensures status { (result ≢ Status.Usage) × (result ≢ Status.ReadFault) × (result ≢ Status.Refused) }
+    ensures whole { IsTrue (is_whole result) → EndsAs (HasPlayOutcome (render_view render.entry) engine.old.terms engine.new) result (H.state host.old) (H.state host.new) }
+    ensures pool_full { result ≡ Status.PoolFull → IsPoolFull (render_view render.entry) engine.new }
+    ensures create { result ≡ Status.OpenFault → Rose ((H.state host.old).creates render.entry.output.now) ((H.state host.new).creates render.entry.output.now)
+        × ((H.state host.new).printed ≡ append_known (H.state host.old).printed (create_line render.entry.output.now)) }
     ensures write { result ≡ Status.WriteFault → Rose (H.state host.old).writes (H.state host.new).writes }
-    ensures told { result ≡ Status.WriteFault → FaultTold [] (H.state host.old) (H.state host.new) ⊎ (Rose ((H.state host.old).creates to.now) ((H.state host.new).creates to.now) × FaultTold (create_line to.now) (H.state host.old) (H.state host.new)) }
+    ensures told { result ≡ Status.WriteFault → FaultTold [] (H.state host.old) (H.state host.new)
+        ⊎ ToldAs (HasPlayOutcome (render_view render.entry) engine.old.terms engine.new) (H.state host.old) (H.state host.new)
+        ⊎ (Rose ((H.state host.old).creates render.entry.output.now) ((H.state host.new).creates render.entry.output.now) × FaultTold (create_line render.entry.output.now) (H.state host.old) (H.state host.new)) }
     ensures memory { result ≡ Status.OutOfMemory → (H.state host.new).printed ≡ (H.state host.old).printed }
-    ensures part { MadePart to.now (header.now ++ frames.now) (H.state host.old) (H.state host.new) }
+    ensures part { MadePart render.entry.output.now (file_of render.entry.rate engine.old.terms) (H.state host.old) (H.state host.new) }
 {
-    let file = match host.create(to) {
+    let file = match host.create(render.output) {
         Ok(file) => file,
         Err(_) => {
-            return end_at(alloc, host, Status::OpenFault, b"fault: create ", to);
+            return end_at(
+                alloc,
+                host,
+                Status::OpenFault,
+                b"fault: create ",
+                render.output,
+            );
         }
     };
-    match write_parts(host, file, header, frames) {
+    match write_parts(alloc, host, file, render, engine, buffers) {
         Ok(()) => Status::Ok,
-        Err(_) => {
+        Err(RoundFault::Write) => {
             tell_fault(host);
             Status::WriteFault
         }
+        Err(RoundFault::PoolFull { pulls }) => end_full(alloc, host, pulls),
+        Err(RoundFault::OutOfMemory) => Status::OutOfMemory,
     }
 }

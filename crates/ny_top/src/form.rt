@@ -1,4 +1,4 @@
-ghost use Rattle.std.specs.Prelude.{◌≡◌, ◌<◌, ◌++◌, None, Some, IfOk, MatchOption, length};
+ghost use Rattle.std.specs.Prelude.{◌≡◌, ◌<◌, ◌≤◌, ◌++◌, None, Some, IfOk, IfSome, MatchOption, length};
 ghost use Rattle.ny_top.specs.Form.{literal_at, value_at, constant_of, constant_at, sum_of, form_of};
 
 use crate::constant::Written;
@@ -60,9 +60,10 @@ fn sum(
     e: ExprId,
 ) -> Result<Option<Vec<Written>>, AllocError>
     requires { e.0 < length program.now.nodes }
-    ensures { IfOk result (λ sum. MatchOption sum
+    ensures sum { IfOk result (λ sum. MatchOption sum
         (sum_of program.now most e ≡ None)
         (λ constants. sum_of program.now most e ≡ Some constants.items)) }
+    ensures count { IfOk result (λ sum. IfSome sum (λ constants. (1 ≤ length constants.items) × (length constants.items ≤ most))) }
 {
     let Some(most) = most.checked_sub(1) else {
         return Ok(None);
@@ -96,9 +97,10 @@ pub(crate) fn read_form(
     alloc: Global,
     program: &Program,
 ) -> Result<Option<Vec<Written>>, AllocError>
-    ensures { IfOk result (λ form. MatchOption form
+    ensures form { IfOk result (λ form. MatchOption form
         (form_of program.now ≡ None)
         (λ constants. form_of program.now ≡ Some constants.items)) }
+    ensures count { IfOk result (λ form. IfSome form (λ constants. (1 ≤ length constants.items) × (length constants.items ≤ 100))) }
 {
     Ok(sum(alloc, program, MOST, program.play())?)
 }

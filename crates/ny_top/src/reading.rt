@@ -1,5 +1,6 @@
-ghost use Rattle.std.specs.Prelude.{◌≡◌, ◌≤◌, length, Some, IfOk, IfErr};
+ghost use Rattle.std.specs.Prelude.{◌≡◌, ◌<◌, ◌≤◌, ◌^◌, length, Some, IfOk, IfErr};
 ghost use Rattle.ny_syntax.specs.Grammar.{height_limit};
+ghost use Rattle.ny_syntax.specs.Sizes.{tree_size};
 ghost use Rattle.ny_syntax.specs.Canonical.{canonical_height};
 ghost use Rattle.ny_check.specs.Acceptance.{program_in};
 ghost use Rattle.ny_top.specs.Reading.{IsTreeOf, IsAccepted, IsTextFault, why_name, fault_name, refusal_text};
@@ -8,7 +9,7 @@ use ny_check::{CheckFault, CheckWhy, Program, check_tree};
 use ny_lex::{LexFault, LexWhy, lex};
 use ny_parse::{ParseFault, parse};
 use ny_report::refusal_line;
-use ny_syntax::Tree;
+use ny_syntax::{Tree, size_laws};
 use std::alloc::{AllocError, Global};
 
 /// Why a text is refused, with the place in bytes from 0.
@@ -38,8 +39,10 @@ fn read_tree(alloc: Global, text: &[u8]) -> Result<Tree, TextFault>
     requires { length text.now ≤ 1048576 }
     ensures tree { IfOk result (λ tree. IsTreeOf text.now tree) }
     ensures height { IfOk result (λ tree. canonical_height tree ≤ height_limit) }
+    ensures small { IfOk result (λ tree. tree_size tree < 2 ^ 32) }
     ensures fault { IfErr result (λ fault. IsTextFault text.now fault) }
 {
+    size_laws();
     let tokens = match lex(alloc, text) {
         Ok(tokens) => tokens,
         Err(LexFault::Bad { at, why }) => return Err(TextFault::Refused(Refusal::Lex { at, why })),

@@ -1,62 +1,62 @@
-ghost use Rattle.std.specs.Prelude.{◌≡◌, ◌≤◌, ◌*◌, ◌++◌, None, Some, length, IfOk, MatchOption};
+ghost use Rattle.std.specs.Prelude.{◌≡◌, ◌*◌, ◌≤◌, None, Some, length, IfOk, IfSome, MatchOption};
 ghost use Rattle.ny_num.specs.Grid.{last_index};
-ghost use Rattle.ny_wav.specs.WavFile.{wav_of, header_of, frame_of};
 ghost use Rattle.ny_check.specs.Acceptance.{program_in};
-ghost use Rattle.ny_top.specs.Channel.{longest, channel_of, mono, file_of, tree_file};
+ghost use Rattle.ny_pull.specs.Channel.{longest};
+ghost use Rattle.ny_top.specs.Channel.{tree_terms};
+ghost use Rattle.ny_top.specs.Playing.{IsNew};
+ghost use Rattle.ny_top.specs.Views.{render_view, task_view};
+ghost use Rattle.ny_top.specs.Words.{IsInRange};
+ghost use Rattle.ny_top.specs.declared.words.Task.TheVariants.{Render as Plays};
 
 use crate::form::read_form;
 use crate::reading::Accepted;
-use crate::sum::channel;
-use crate::term::{Term, terms};
-use ny_num::{Rate, Sample};
-use ny_wav::{frame_bytes, header};
+use crate::rounds::{Buffers, make_buffers};
+use crate::term::terms;
+use crate::words::Render;
+use ny_pull::{Engine, Term};
 use std::alloc::{AllocError, Global};
 
-/// The bytes of a WAV file.
+/// What is played: an engine that was just opened, and the buffers of its rounds.
 #[derive(Drop)]
-pub(crate) struct Wav {
-    pub(crate) header: [u8; 44],
-    pub(crate) frames: Vec<u8>,
+pub(crate) struct Song {
+    pub(crate) engine: Engine,
+    pub(crate) buffers: Buffers,
 }
 
-/// The bytes of the frames of one channel.
-fn frames(alloc: Global, samples: &[Sample]) -> Result<Vec<u8>, AllocError>
-    requires { length samples.now ≤ 172800000 }
-    ensures { IfOk result (λ bytes. bytes.items ≡ frame_of samples.now) }
+/// An engine for a sum of terms, with what is asked for.
+#[tactic(auto, using(crate::proofs::Files::channel_length))]
+fn open_sum(alloc: Global, render: Render, terms: Vec<Term>) -> Result<Engine, AllocError>
+    requires asked { IsInRange (task_view (Plays render)) }
+    requires some_terms { 1 ≤ length terms.items }
+    requires few_terms { length terms.items ≤ 100 }
+    requires hour { longest terms.items ≤ last_index render.rate }
+    ensures terms { IfOk result (λ e. e.terms ≡ terms.items) }
+    ensures new { IfOk result (λ e. IsNew (render_view render.entry) e) }
 {
-    let mut bytes = vec![in alloc; 0; 2 * samples.len()]?;
-    frame_bytes(samples, &mut bytes);
-    Ok(bytes)
+    Ok(Engine::open(alloc, terms, render.pool, render.block, render.rate)?)
 }
 
-/// The file of a sum of terms.
-#[tactic(auto, using(crate::proofs::Files::file_bytes))]
-fn sum_file(alloc: Global, rate: Rate, terms: &[Term]) -> Result<Wav, AllocError>
-    requires { longest terms.now ≤ last_index rate }
-    ensures { IfOk result (λ wav. wav.header ++ wav.frames.items ≡ wav_of 1 rate (mono (channel_of terms.now))) }
-{
-    let samples = channel(alloc, terms)?;
-    Ok(Wav {
-        header: header(1, rate, 16, samples.len() as u32),
-        frames: frames(alloc, &samples)?,
-    })
-}
-
-/// The file of an accepted text; none where it can't be played yet.
-#[tactic(auto, unfolding(crate::specs::Channel::file_of, crate::specs::Channel::program_file, crate::specs::Channel::tree_file))]
-pub(crate) fn song(
+/// What plays an accepted text; none where it can't be played yet.
+#[tactic(auto, unfolding(crate::specs::Channel::program_terms, crate::specs::Channel::tree_terms))]
+pub(crate) fn open_song(
     alloc: Global,
-    rate: Rate,
+    render: Render,
     accepted: &Accepted,
-) -> Result<Option<Wav>, AllocError>
-    requires { program_in accepted.now.tree ≡ Some accepted.now.program }
-    ensures { IfOk result (λ song. MatchOption song
-        (tree_file rate accepted.now.tree ≡ None)
-        (λ wav. tree_file rate accepted.now.tree ≡ Some (wav.header ++ wav.frames.items))) }
+) -> Result<Option<Song>, AllocError>
+    requires asked { IsInRange (task_view (Plays render)) }
+    requires program { program_in accepted.now.tree ≡ Some accepted.now.program }
+    ensures terms { IfOk result (λ song. MatchOption song
+        (tree_terms render.entry.rate accepted.now.tree ≡ None)
+        (λ s. tree_terms render.entry.rate accepted.now.tree ≡ Some s.engine.terms)) }
+    ensures new { IfOk result (λ song. IfSome song (λ s. IsNew (render_view render.entry) s.engine)) }
+    ensures samples { IfOk result (λ song. IfSome song (λ s. length s.buffers.samples.items ≡ render.entry.block)) }
+    ensures bytes { IfOk result (λ song. IfSome song (λ s. length s.buffers.bytes.items ≡ 2 * render.entry.block)) }
 {
     let Some(written) = read_form(alloc, &accepted.program)? else {
         return Ok(None);
     };
-    let terms = terms(alloc, rate, &written)?;
-    Ok(Some(sum_file(alloc, rate, &terms)?))
+    let terms = terms(alloc, render.rate, &written)?;
+    let engine = open_sum(alloc, render, terms)?;
+    let buffers = make_buffers(alloc, render.block)?;
+    Ok(Some(Song { engine, buffers }))
 }

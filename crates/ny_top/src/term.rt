@@ -1,17 +1,12 @@
 ghost use Rattle.std.specs.Prelude.{◌≡◌, ◌≤◌, map, IfOk};
 ghost use Rattle.ny_num.specs.Grid.{last_index};
-ghost use Rattle.ny_top.specs.Channel.{term_of, longest};
+ghost use Rattle.ny_pull.specs.Channel.{longest};
+ghost use Rattle.ny_top.specs.Channel.{term_of};
 
 use crate::constant::Written;
 use ny_num::{Rate, Sample, index, ticks_of};
+use ny_pull::Term;
 use std::alloc::{AllocError, Global};
-
-/// A constant that sounds: its value, and for how many samples.
-#[derive(Clone, Copy, Debug, PartialEq, Eq)]
-pub struct Term {
-    pub value: Sample,
-    pub len: u32,
-}
 
 /// What a constant is at a rate.
 #[tactic(auto, unfolding(crate::specs::Channel::term_of))]

@@ -1,4 +1,4 @@
-ghost use Rattle.std.specs.Prelude.{◌≡◌, ◌≢◌, ◌≤◌, ◌⊎◌, length, Some, IsTrue};
+ghost use Rattle.std.specs.Prelude.{◌≡◌, ◌≢◌, ◌≤◌, ◌⊎◌, [], length, None, Some, IsTrue};
 ghost use Rattle.std.specs.Io.KnownBytes.{append_known};
 ghost use Rattle.ny_io.specs.Faults.{Rose};
 ghost use Rattle.ny_io.specs.Host.{NoneFell, SameOutput};
@@ -6,9 +6,10 @@ ghost use Rattle.ny_syntax.specs.Grammar.{height_limit};
 ghost use Rattle.ny_syntax.specs.Canonical.{canonical_height, canonical_text};
 ghost use Rattle.ny_check.specs.Acceptance.{program_in};
 ghost use Rattle.ny_top.specs.Reading.{refusal_text};
-ghost use Rattle.ny_top.specs.Outcome.{HasReadOutcome, tree_outcome, refused};
-ghost use Rattle.ny_top.specs.Ends.{FaultTold, ToldAs, EndsAs, MadeTree, MadeText, CreateCause, CreateTold, IsOutcome, is_whole};
+ghost use Rattle.ny_top.specs.Outcome.{HasReadOutcome, HasTreeOutcome, refused};
+ghost use Rattle.ny_top.specs.Ends.{FaultTold, ToldAs, EndsAs, MadeTree, MadeText, CreateCause, CreateTold, TaskPoolFull, IsOutcome, is_whole};
 ghost use Rattle.ny_top.specs.Views.{task_view};
+ghost use Rattle.ny_top.specs.Words.{IsInRange};
 
 use crate::ends::finish;
 use crate::play::play;
@@ -16,6 +17,7 @@ use crate::reading::{Accepted, Refusal, TextFault, line_of, read_text};
 use crate::status::Status;
 use crate::words::Task;
 use ny_io::Host;
+use ny_pull::Engine;
 use ny_syntax::{Tree, canonical};
 use std::alloc::Global;
 
@@ -55,42 +57,62 @@ fn print_canonical<H: Host>(alloc: Global, host: &mut H, tree: &Tree) -> Status
 }
 
 /// Does what is asked for with an accepted text.
-fn run_accepted<H: Host>(alloc: Global, host: &mut H, task: Task, accepted: &Accepted) -> Status
+fn run_accepted<H: Host>(
+    alloc: Global,
+    host: &mut H,
+    task: Task,
+    accepted: &Accepted,
+    left: &mut Option<Engine>,
+) -> Status
+    requires asked { IsInRange (task_view task) }
+    requires left { left.old ≡ None }
     requires height { canonical_height accepted.now.tree ≤ height_limit }
     requires program { program_in accepted.now.tree ≡ Some accepted.now.program }
     ensures counts { NoneFell (H.state host.old) (H.state host.new) }
     ensures files { (H.state host.new).files ≡ (H.state host.old).files }
-    ensures status { (result ≢ Status.Usage) × (result ≢ Status.ReadFault) × (result ≢ Status.PoolFull) }
-    ensures whole { IsTrue (is_whole result) → IsOutcome (tree_outcome (task_view task.entry) accepted.now.tree) result (H.state host.old) (H.state host.new) }
+    ensures status { (result ≢ Status.Usage) × (result ≢ Status.ReadFault) }
+    ensures whole { IsTrue (is_whole result) → EndsAs (HasTreeOutcome (task_view task.entry) accepted.now.tree left.new) result (H.state host.old) (H.state host.new) }
+    ensures pool_full { result ≡ Status.PoolFull → TaskPoolFull (task_view task.entry) left.new }
     ensures create { result ≡ Status.OpenFault → CreateCause (task_view task.entry) (H.state host.old) (H.state host.new) }
     ensures write { result ≡ Status.WriteFault → Rose (H.state host.old).writes (H.state host.new).writes }
-    ensures told { result ≡ Status.WriteFault → FaultTold (tree_outcome (task_view task.entry) accepted.now.tree).printed (H.state host.old) (H.state host.new)
+    ensures told { result ≡ Status.WriteFault → FaultTold [] (H.state host.old) (H.state host.new)
+        ⊎ ToldAs (HasTreeOutcome (task_view task.entry) accepted.now.tree left.new) (H.state host.old) (H.state host.new)
         ⊎ CreateTold (task_view task.entry) (H.state host.old) (H.state host.new) }
     ensures memory { result ≡ Status.OutOfMemory → (H.state host.new).printed ≡ (H.state host.old).printed }
     ensures part { MadeTree (task_view task.entry) accepted.now.tree (H.state host.old) (H.state host.new) }
 {
     match task {
-        Task::Render(render) => play(alloc, host, render, accepted),
+        Task::Render(render) => play(alloc, host, render, accepted, left),
         Task::Check => print_canonical(alloc, host, &accepted.tree),
     }
 }
 
 /// Does what is asked for with a text that was read whole.
-pub(crate) fn run_text<H: Host>(alloc: Global, host: &mut H, task: Task, text: &[u8]) -> Status
-    requires { length text.now ≤ 1048576 }
+pub(crate) fn run_text<H: Host>(
+    alloc: Global,
+    host: &mut H,
+    task: Task,
+    text: &[u8],
+    left: &mut Option<Engine>,
+) -> Status
+    requires short { length text.now ≤ 1048576 }
+    requires asked { IsInRange (task_view task) }
+    requires left { left.old ≡ None }
     ensures counts { NoneFell (H.state host.old) (H.state host.new) }
     ensures files { (H.state host.new).files ≡ (H.state host.old).files }
-    ensures status { (result ≢ Status.Usage) × (result ≢ Status.ReadFault) × (result ≢ Status.PoolFull) }
-    ensures whole { IsTrue (is_whole result) → EndsAs (HasReadOutcome (task_view task.entry) text.now) result (H.state host.old) (H.state host.new) }
+    ensures status { (result ≢ Status.Usage) × (result ≢ Status.ReadFault) }
+    ensures whole { IsTrue (is_whole result) → EndsAs (HasReadOutcome (task_view task.entry) text.now left.new) result (H.state host.old) (H.state host.new) }
+    ensures pool_full { result ≡ Status.PoolFull → TaskPoolFull (task_view task.entry) left.new }
     ensures create { result ≡ Status.OpenFault → CreateCause (task_view task.entry) (H.state host.old) (H.state host.new) }
     ensures write { result ≡ Status.WriteFault → Rose (H.state host.old).writes (H.state host.new).writes }
-    ensures told { result ≡ Status.WriteFault → ToldAs (HasReadOutcome (task_view task.entry) text.now) (H.state host.old) (H.state host.new)
+    ensures told { result ≡ Status.WriteFault → FaultTold [] (H.state host.old) (H.state host.new)
+        ⊎ ToldAs (HasReadOutcome (task_view task.entry) text.now left.new) (H.state host.old) (H.state host.new)
         ⊎ CreateTold (task_view task.entry) (H.state host.old) (H.state host.new) }
     ensures memory { result ≡ Status.OutOfMemory → (H.state host.new).printed ≡ (H.state host.old).printed }
     ensures part { MadeText (task_view task.entry) text.now (H.state host.old) (H.state host.new) }
 {
     match read_text(alloc, text) {
-        Ok(accepted) => run_accepted(alloc, host, task, &accepted),
+        Ok(accepted) => run_accepted(alloc, host, task, &accepted, left),
         Err(TextFault::Refused(refusal)) => refuse(alloc, host, refusal),
         Err(TextFault::OutOfMemory) => Status::OutOfMemory,
     }

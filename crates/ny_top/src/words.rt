@@ -1,17 +1,18 @@
-ghost use Rattle.std.specs.Prelude.{◌≡◌, ◌≤◌, ◌<◌, ◌+◌, ◌^◌, length, map, None, Some, string_bytes, MatchOption, IsTrue};
+ghost use Rattle.std.specs.Prelude.{◌≡◌, ◌≤◌, ◌<◌, ◌+◌, ◌^◌, length, map, None, Some, string_bytes, MatchOption, IfSome, IsTrue};
 ghost use Rattle.std.specs.List.{list_all};
 ghost use Rattle.std.specs.Char.{is_ascii_digit};
 ghost use Rattle.ny_num.specs.Decimal.{number_of};
-ghost use Rattle.ny_top.specs.Words.{number_word, block_length, rate_with, with_option, with_options, no_options, read_words};
+ghost use Rattle.ny_top.specs.Words.{number_word, pool_size, block_length, rate_with, with_option, with_options, no_options, read_words, IsInRange, AreInRange};
 ghost use Rattle.ny_top.specs.Views.{command_view};
 
 use ny_num::Rate;
 
-/// What `render` is asked for: the name of its output, the block length in samples and the sample
-/// rate.
+/// What `render` is asked for: the name of its output, how many blocks the pool has, the block
+/// length in samples and the sample rate.
 #[derive(Clone, Copy)]
 pub(crate) struct Render<'a> {
     pub(crate) output: &'a str,
+    pub(crate) pool: u32,
     pub(crate) block: u32,
     pub(crate) rate: Rate,
 }
@@ -35,14 +36,18 @@ pub(crate) struct Command<'a> {
 /// The options that were given so far.
 #[derive(Clone, Copy)]
 pub struct Options {
+    pub pool: Option<u32>,
     pub block: Option<u32>,
     pub rate: Option<Rate>,
 }
 
 const NO_OPTIONS: Options = Options {
+    pool: None,
     block: None,
     rate: None,
 };
+
+const DEFAULT_POOL: u32 = 16_384;
 
 const DEFAULT_BLOCK: u32 = 1024;
 
@@ -84,9 +89,22 @@ fn number(word: &str) -> Option<u64>
     }
 }
 
+/// A pool size: 1 to 65536 blocks.
+fn pool(number: u64) -> Option<u32>
+    ensures size { result ≡ pool_size number }
+    ensures within { IfSome result (λ n. (1 ≤ n) × (n ≤ 65536)) }
+{
+    if 1 <= number && number <= 65_536 {
+        Some(number as u32)
+    } else {
+        None
+    }
+}
+
 /// A block length: 16 to 4096 samples.
 fn block(number: u64) -> Option<u32>
-    ensures { result ≡ block_length number }
+    ensures length { result ≡ block_length number }
+    ensures within { IfSome result (λ n. (16 ≤ n) × (n ≤ 4096)) }
 {
     if 16 <= number && number <= 4096 {
         Some(number as u32)
@@ -108,9 +126,15 @@ fn rate(number: u64) -> Option<Rate>
 
 /// The options with one more; none where it can't be given.
 fn more(options: Options, name: &str, value: &str) -> Option<Options>
-    ensures { result ≡ with_option options name.now value.now }
+    requires { AreInRange options }
+    ensures options { result ≡ with_option options name.now value.now }
+    ensures within { IfSome result AreInRange }
 {
     match name {
+        "--pool" if options.pool.is_none() => Some(Options {
+            pool: Some(pool(number(value)?)?),
+            ..options
+        }),
         "--block" if options.block.is_none() => Some(Options {
             block: Some(block(number(value)?)?),
             ..options
@@ -125,7 +149,8 @@ fn more(options: Options, name: &str, value: &str) -> Option<Options>
 
 /// The options of a command, from names and values in turn.
 fn read_options(words: &[String]) -> Option<Options>
-    ensures { result ≡ with_options no_options (map string_bytes words.now) }
+    ensures options { result ≡ with_options no_options (map string_bytes words.now) }
+    ensures within { IfSome result AreInRange }
 {
     let mut options = NO_OPTIONS;
     let mut at = 0;
@@ -142,9 +167,10 @@ fn read_options(words: &[String]) -> Option<Options>
 
 /// What the words ask for; none where they are no command (`docs/LANGUAGE.md`, "The command line").
 pub(crate) fn read_command(words: &[String]) -> Option<Command<'_>>
-    ensures { MatchOption result
+    ensures command { MatchOption result
         (read_words (map string_bytes words.now) ≡ None)
         (λ command. read_words (map string_bytes words.now) ≡ Some (command_view command)) }
+    ensures within { IfSome result (λ command. IsInRange (command_view command).task) }
 {
     match words {
         [name, input] if name.as_str() == "check" => Some(Command {
@@ -157,6 +183,7 @@ pub(crate) fn read_command(words: &[String]) -> Option<Command<'_>>
                 input: input.as_str(),
                 task: Task::Render(Render {
                     output: output.as_str(),
+                    pool: options.pool.unwrap_or(DEFAULT_POOL),
                     block: options.block.unwrap_or(DEFAULT_BLOCK),
                     rate: options.rate.unwrap_or(DEFAULT_RATE),
                 }),

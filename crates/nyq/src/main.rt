@@ -21,5 +21,6 @@ fn main(rt: HostRuntime) -> ExitCode {
         return ExitCode::from(Status::OutOfMemory.code());
     };
     let mut host = RealHost::new(rt);
-    ExitCode::from(run(alloc, &words, &mut host).code())
+    let mut left = None;
+    ExitCode::from(run(alloc, &words, &mut host, &mut left).code())
 }

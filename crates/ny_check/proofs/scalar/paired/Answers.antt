@@ -6,4 +6,4 @@ use Rattle.ny_check.proofs.scalar.paired.Goals as goal
 pub returns : goal.returns
 returns c =
     let e : c.loop-i.i ≡ min (length c.args.params.now) (length c.args.arguments.now) = omega arith in
-    sym (append-nil c.loop-i.names.items) ∙ ap (λ w. c.loop-i.names.items ++ w) (sym (paired_end c.args.params.now c.args.arguments.now c.loop-i.i e)) ∙ c.loop-i.invariant
+    sym (append-nil c.loop-i.names) ∙ ap (λ w. c.loop-i.names ++ w) (sym (paired_end c.args.params.now c.args.arguments.now c.loop-i.i e)) ∙ c.loop-i.invariant

@@ -1,6 +1,7 @@
-use Rattle.std.proofs.Common.{sym, subst, List, length}
+use Rattle.std.proofs.Common.{◌≤◌, sym, subst, List, length, arith}
 use Rattle.ny_syntax.specs.declared.token.Token.{Token}
 use Rattle.ny_syntax.specs.Places.{AreInOrder}
+use Rattle.ny_syntax.specs.Sizes.{tree_size}
 use Rattle.ny_syntax.proofs.RoundTrip.{canonical_height-limit}
 use Rattle.ny_top.proofs.reading.read_tree.Goals as goal
 
@@ -12,3 +13,11 @@ parse-requires-clause-in_order c =
 pub returns-in-Ok-parse-clause-height : goal.returns-in-Ok-parse-clause-height
 returns-in-Ok-parse-clause-height c =
     canonical_height-limit c.args.text.now c.deref.result.now c.in-Ok-parse.tree c.in-Ok-parse.ensures.tree
+
+pub returns-in-Ok-parse-clause-small : goal.returns-in-Ok-parse-clause-small
+returns-in-Ok-parse-clause-small c =
+    let P : List Token → Type 0 = λ tokens. AreInOrder 0 tokens (length c.args.text.now) in
+    let in_order : P c.deref.result.now = subst P (sym c.deref.ensures.value) c.in-Ok.ensures.in_order in
+    let few : tree_size c.in-Ok-parse.tree ≤ length c.args.text.now =
+    c.size_laws.ensures.few c.args.text.now c.deref.result.now c.in-Ok-parse.tree (length c.args.text.now) c.in-Ok-parse.ensures.tree in_order in
+    omega arith

@@ -1,6 +1,7 @@
 use Rattle.std.proofs.Common.{◌≡◌, ◌≤◌, map, take}
 use Rattle.ny_num.specs.Grid.{last_index}
-use Rattle.ny_top.specs.Channel.{term_of, longest}
+use Rattle.ny_top.specs.Channel.{term_of}
+use Rattle.ny_pull.specs.Channel.{longest}
 use Rattle.ny_top.proofs.term.terms.Given as goal
 
 -- the terms of the constants so far

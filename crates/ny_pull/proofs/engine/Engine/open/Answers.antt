@@ -7,8 +7,7 @@ use Rattle.ny_pull.proofs.engine.Engine.open.Goals as goal
 pub invariant_of-result : goal.invariant_of-result
 invariant_of-result c =
     let sum : IsSum c.make_sum.new.heap c.in_ok-sum.sum c.args.terms.items c.args.rate (2 * length c.args.terms.items - 1) = subst (λ ts. IsSum c.make_sum.new.heap c.in_ok-sum.sum ts c.args.rate (2 * length ts - 1)) c.as_slice.ensures.value c.in_ok-sum.ensures.sums in
-    let pool = c.in_ok-channel.ensures.counts.pool ∙ (c.in_ok-sum.ensures.counts.pool ∙ ap (λ (h : HeapState (Unit {0})). h.pool) c.in_ok-heap.ensures.opened) in
-    begins_inside c.make_channel.new.heap c.in_ok-channel.channel c.args.terms.items c.args.pool c.requires.few_terms c.requires.some_terms pool
+    begins_inside c.make_channel.new.heap c.in_ok-channel.channel c.args.terms.items c.requires.few_terms c.requires.some_terms
     (c.in_ok-channel.ensures.plays c.args.terms.items c.args.rate (2 * length c.args.terms.items - 1) sum)
 
 pub returns-clause-piece : goal.returns-clause-piece

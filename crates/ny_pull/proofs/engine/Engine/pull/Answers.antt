@@ -2,7 +2,7 @@ use Rattle.std.proofs.Common.{◌≡◌, inl, ◌*◌, ◌++◌, length, drop, i
 use Rattle.ny_pull.specs.Below.{IsRanked}
 use Rattle.ny_pull.specs.Engine.{EngineState}
 use Rattle.ny_pull.proofs.PlayLemmas.{open_of, few_pulls, held_then, pulled_block, stopped_size}
-use Rattle.ny_pull.proofs.EngineLemmas.{has_ended, not_ended, none_next, next_is, one_pull, same_piece, spends, read_gives, at_failed, at_done, none_spent}
+use Rattle.ny_pull.proofs.EngineLemmas.{has_ended, not_ended, none_next, next_is, one_pull, same_piece, spends, read_gives, at_failed, at_done, all_taken, full_now, none_spent}
 use Rattle.ny_pull.proofs.engine.Engine.pull.Goals as goal
 
 pub returns-in_default-unit_of-clause-count : goal.returns-in_default-unit_of-clause-count
@@ -35,7 +35,19 @@ pub invariant_of-self : goal.invariant_of-self
 invariant_of-self c =
     let d = c.drive_within.ensures in
     let failed : is_err c.drive_within.result ≡ true = sym c.is_err.ensures.value ∙ c.if-is_err.true in
-    spends _ _ _ _ _ _ _ _ c.self.invariant (sym c.in-Some-unit_of.ensures.unit) d.laws d.settled (at_failed c.drive_within.result _ failed d.below) d.comes d.keeps (at_failed c.drive_within.result _ failed d.full)
+    let full = at_failed c.drive_within.result _ failed d.full in
+    let l = c.live.ensures in
+    spends _ _ _ _ _ _ _ _ c.self.invariant (sym c.in-Some-unit_of.ensures.unit) d.laws d.settled (at_failed c.drive_within.result _ failed d.below) d.comes d.keeps l.live (all_taken c.drive_within.new.heap c.live.result l.live l.within full)
+
+pub returns-then-is_err-clause-full : goal.returns-then-is_err-clause-full
+returns-then-is_err-clause-full c =
+    let d = c.drive_within.ensures in
+    let failed : is_err c.drive_within.result ≡ true = sym c.is_err.ensures.value ∙ c.if-is_err.true in
+    let list = (open_of _ _ _ _ _ _ c.self.invariant.playing (sym c.in-Some-unit_of.ensures.unit)).list in
+    let size = stopped_size _ _ _ _ _ _ _ c.self.invariant.playing list (at_failed c.drive_within.result _ failed d.below) in
+    let l = c.live.ensures in
+    let all = all_taken c.drive_within.new.heap c.live.result l.live l.within (at_failed c.drive_within.result _ failed d.full) in
+    full_now _ _ _ _ _ _ _ c.self.view_is c.live.result c.drive_within.new.heap all size.0 l.live
 
 pub returns-then-is_err-clause-same : goal.returns-then-is_err-clause-same
 returns-then-is_err-clause-same c =
@@ -61,7 +73,6 @@ invariant_of-self-2 c =
     let done : is_err c.drive_within.result ≡ false = sym c.is_err.ensures.value ∙ c.if-is_err.false in
     let so = pulled_block _ _ _ _ _ _ _ _ _ _ _ c.self.invariant.playing (sym c.in-Some-unit_of.ensures.unit) d.laws d.settled (at_done c.drive_within.result _ done d.drives) d.comes d.keeps r.passes (c.requires.room ∙ sym (ap (λ (e : EngineState). e.heap.block) c.self.view_is)) r.count r.laws r.trimmed r.keeps in
     record {
-      size = c.self.invariant.size ∙ sym so.pool;
       few = c.self.invariant.few;
       playing = so.playing;
       full = λ fault is. absurd (none_spent c.self.inside.spent fault c.in_default.is is);

@@ -1,0 +1,7 @@
+use Rattle.std.proofs.Common.{◌≡◌, ℕ, ◌<◌, pos, slice_index_or}
+use Rattle.ny_num.specs.Numbers.{sample_abs}
+use Rattle.ny_kernels.proofs.sides.absolute.Given as goal
+
+-- the places so far
+abbrev pub invariant-loop-n : goal.invariant-loop-n
+invariant-loop-n l = (k : ℕ) → k < l.n → slice_index_or l.out k (pos 0) ≡ sample_abs (slice_index_or l.a k (pos 0))

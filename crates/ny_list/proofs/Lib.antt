@@ -1,0 +1,13 @@
+pub mod IndexLemmas
+pub mod ChainLemmas
+pub mod StateLemmas
+pub mod CursorLemmas
+pub mod GiveLemmas
+pub mod SettleLemmas
+pub mod AppendLemmas
+pub mod MoveLemmas
+pub mod RunLemmas
+pub mod StandLemmas
+pub mod LooseLemmas
+pub mod LawLemmas
+pub mod StoreLemmas

@@ -1,0 +1,5 @@
+pub mod Store
+pub mod Laws
+pub mod Steps
+pub mod Chain
+pub mod Table

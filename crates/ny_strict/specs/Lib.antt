@@ -1,0 +1,4 @@
+pub mod ByIndex
+pub mod Operations
+pub mod Parts
+pub mod Tables

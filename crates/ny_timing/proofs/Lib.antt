@@ -1,0 +1,11 @@
+pub mod TimesOfSounds
+pub mod TimingEquation
+pub mod EnvelopeEnds
+pub mod NameScalars
+pub mod HeldNames
+pub mod PlayedEquation
+pub mod TimesOfChannels
+pub mod Turns
+pub mod SameRates
+pub mod NoSound
+pub mod Silence

@@ -1,0 +1,204 @@
+-- The file of an engine: its bytes in parts, and how a run ends that wrote them.
+use Rattle.std.proofs.Common.{◌≡◌, ℕ, ◌*◌, ◌≤◌, ◌⊎◌, List, [], ◌∷◌, ◌++◌, take, length, Option, Some, None, IsTrue, true, false, refl, sym, ap, subst, ◌∙◌, arith, slice_index, inl, inr}
+use Rattle.std.specs.Int.{div_ceil}
+use Rattle.std.specs.Io.KnownBytes.{append_known}
+use Rattle.ny_io.specs.Host.{HostState, written, added}
+use Rattle.ny_num.specs.declared.rate.Rate.{Rate}
+use Rattle.ny_pull.specs.declared.term.Term.{Term}
+use Rattle.ny_pull.specs.declared.fault.PullFault.TheVariants as faults
+use Rattle.ny_pull.specs.Channel.{channel_of}
+use Rattle.ny_pull.specs.Engine.{EngineState, passed_of, SamePiece}
+use Rattle.ny_report.specs.Lines.{full_line_of}
+use Rattle.ny_wav.specs.WavFile.{header_of, frame_of}
+use Rattle.ny_wav.proofs.Frames.{wav_of-mono, frames_of-mono}
+use Rattle.ny_syntax.specs.declared.tree.Tree.{Tree}
+use Rattle.ny_top.specs.Words.{Render, Task, render, check}
+use Rattle.ny_top.specs.Channel.{tree_terms, file_of, first_frames}
+use Rattle.ny_top.specs.Playing.{IsAsked, HasPlayed, IsFullAfter, IsPoolFull, IsNew}
+use Rattle.ny_top.specs.Rounds.{IsUnderway, Wrote, WrotePart, IsPulledOut, IsSpentAfter, EndsRounds, EndsFile}
+use Rattle.ny_top.specs.Outcome.{Outcome, played, full, checked, refused, form_line, HasPlayOutcome, HasTermsOutcome, HasTreeOutcome}
+use Rattle.ny_top.specs.Ends.{EndsAs, ToldAs, FaultTold, MadePart, MadeTree, made, is_whole}
+use Rattle.ny_top.specs.declared.status.Status.{Status}
+use Rattle.ny_top.specs.declared.status.Status.TheVariants as status
+use Rattle.ny_top.specs.declared.rounds.RoundFault.{RoundFault}
+use Rattle.ny_top.specs.declared.rounds.RoundFault.TheVariants.{Write, PoolFull, OutOfMemory}
+use Rattle.ny_top.proofs.Parts.{written-new}
+use Rattle.ny_top.proofs.RoundLemmas.{wrote_both, part_first, part_then}
+use Rattle.ny_top.proofs.Stages.{rose_from}
+
+-- ---- the bytes
+
+head_of : Rate → List Term → List ℕ
+head_of rate terms = header_of 1 rate 16 (length (channel_of terms))
+
+file_parts : (rate : Rate) (terms : List Term) → file_of rate terms ≡ head_of rate terms ++ frame_of (channel_of terms)
+unfolding file_of head_of
+file_parts rate terms = wav_of-mono rate (channel_of terms)
+
+first_parts : (rate : Rate) (terms : List Term) (n : ℕ) → first_frames rate terms n ≡ head_of rate terms ++ frame_of (take n (channel_of terms))
+unfolding first_frames head_of
+first_parts rate terms n = ap (λ bytes. header_of 1 rate 16 (length (channel_of terms)) ++ bytes) (frames_of-mono (take n (channel_of terms)))
+
+module _ (rate : Rate) (terms : List Term) (head : List ℕ) (is : head ≡ header_of 1 rate 16 (length (channel_of terms))) (old mid new : HostState) where
+  head_is : head ≡ head_of rate terms
+  unfolding head_of
+  head_is = is
+
+  -- the header, and then all frames
+  pub wrote_file : Wrote head old mid → Wrote (frame_of (channel_of terms)) mid new → Wrote (file_of rate terms) old new
+  wrote_file first second =
+      wrote_both head (frame_of (channel_of terms)) old mid new first second
+      ∙ ap (λ bytes. written bytes old.created) (ap (λ h. h ++ frame_of (channel_of terms)) head_is ∙ sym (file_parts rate terms))
+
+  -- the header, and then the first frames
+  pub wrote_first : (n : ℕ) → Wrote head old mid → Wrote (frame_of (take n (channel_of terms))) mid new → Wrote (first_frames rate terms n) old new
+  wrote_first n first second =
+      wrote_both head (frame_of (take n (channel_of terms))) old mid new first second
+      ∙ ap (λ bytes. written bytes old.created) (ap (λ h. h ++ frame_of (take n (channel_of terms))) head_is ∙ sym (first_parts rate terms n))
+
+  whole_is : head ++ frame_of (channel_of terms) ≡ file_of rate terms
+  whole_is = ap (λ h. h ++ frame_of (channel_of terms)) head_is ∙ sym (file_parts rate terms)
+
+  pub head_part : WrotePart head old new → WrotePart (file_of rate terms) old new
+  head_part part = subst (λ bytes. WrotePart bytes old new) whole_is (part_first head (frame_of (channel_of terms)) old new part)
+
+  pub file_part : Wrote head old mid → WrotePart (frame_of (channel_of terms)) mid new → WrotePart (file_of rate terms) old new
+  file_part first part = subst (λ bytes. WrotePart bytes old new) whole_is (part_then head (frame_of (channel_of terms)) old mid new first part)
+
+  pub ends_file : (start e : EngineState) (fault : RoundFault) → start.terms ≡ terms → start.rate ≡ rate → old.writes ≤ mid.writes → Wrote head old mid
+      → EndsRounds start e mid new fault → EndsFile start e old new fault
+  ends_file start e Write same_terms same_rate later first rose = rose_from old.writes mid.writes new.writes later rose
+  ends_file start e (PoolFull n) same_terms same_rate later first (spent, wrote) =
+      let m = n * start.heap.block in
+      let here : Wrote (frame_of (take m (channel_of terms))) mid new = subst (λ ts. Wrote (frame_of (take m (channel_of ts))) mid new) same_terms wrote in (
+        spent,
+        subst (λ r. Wrote (first_frames r start.terms m) old new) (sym same_rate)
+            (subst (λ ts. Wrote (first_frames rate ts m) old new) (sym same_terms) (wrote_first m first here)),
+      )
+  ends_file start e OutOfMemory same_terms same_rate later first is = tt
+
+-- ---- the engine
+
+-- no block was pulled yet
+pub begins_at : (r : Render) (e : EngineState) → IsNew r e → passed_of e 0 ≡ 0
+begins_at r e new = ap (λ xs. slice_index xs 0 * e.heap.block) new.pulls ∙ omega arith
+
+pub begins : (r : Render) (e : EngineState) → IsNew r e → IsUnderway e
+begins r e new = record {
+  channel = new.channel;
+  one = ap length new.pulls;
+  unspent = new.unspent;
+  laws = new.laws;
+  gave = omega (arith, begins_at r e new, new.laws.positive);
+}
+
+asked_on : (r : Render) (start e : EngineState) → IsNew r start → SamePiece start e → IsAsked r e
+asked_on r start e new same = record {
+  rate = same.rate ∙ new.asked.rate;
+  pool = same.pool ∙ new.asked.pool;
+  block = same.block ∙ new.asked.block;
+}
+
+has_played : (r : Render) (start e : EngineState) → IsNew r start → IsPulledOut start e → HasPlayed r start.terms e
+has_played r start e new out = record {
+  asked = asked_on r start e new out.same;
+  piece = out.same.terms;
+  pulls = out.pulls ∙ ap (λ b. div_ceil (length (channel_of start.terms)) b ∷ []) new.asked.block;
+  ended = out.ended;
+  unspent = out.unspent;
+}
+
+full_after : (r : Render) (start e : EngineState) (n : ℕ) → IsNew r start → IsSpentAfter start e n → IsFullAfter r start.terms n e
+full_after r start e n new spent = record {
+  asked = asked_on r start e new spent.same;
+  piece = spent.same.terms;
+  pulls = spent.pulls;
+  spent = spent.spent ∙ ap (λ pool. Some (faults.PoolFull n pool)) new.asked.pool;
+}
+
+pub pool_full : (r : Render) (start e : EngineState) (n : ℕ) → IsNew r start → IsSpentAfter start e n → IsPoolFull r e
+pool_full r start e n new spent = (asked_on r start e new spent.same, spent.stopped)
+
+-- ---- how the run ends
+
+-- what was written to a new file is what it holds
+holds : (to bytes : List ℕ) (old mid new : HostState) → mid.created ≡ added (to, []) old.created → Wrote bytes mid new → new.created ≡ made (Some (to, bytes)) old.created
+holds to bytes old mid new is_new wrote = wrote ∙ ap (written bytes) is_new ∙ written-new bytes to old.created
+
+pub plays : (r : Render) (start e : EngineState) (old mid new : HostState) → IsNew r start → IsPulledOut start e → mid.created ≡ added (r.to, []) old.created
+    → Wrote (file_of r.rate start.terms) mid new → new.printed ≡ append_known old.printed [] → EndsAs (HasPlayOutcome r start.terms e) status.Ok old new
+plays r start e old mid new is out is_new wrote printed = (
+  played r start.terms,
+  inl (has_played r start e is out, refl),
+  (refl, holds r.to (file_of r.rate start.terms) old mid new is_new wrote, printed),
+)
+
+pub fills : (r : Render) (start e : EngineState) (old mid new : HostState) (n : ℕ) → IsNew r start → IsSpentAfter start e n → mid.created ≡ added (r.to, []) old.created
+    → Wrote (first_frames start.rate start.terms (n * start.heap.block)) mid new → new.printed ≡ append_known old.printed (full_line_of n)
+    → EndsAs (HasPlayOutcome r start.terms e) status.PoolFull old new
+fills r start e old mid new n is spent is_new wrote printed =
+    let bytes : first_frames start.rate start.terms (n * start.heap.block) ≡ first_frames r.rate start.terms (n * r.block) =
+    ap (λ rate. first_frames rate start.terms (n * start.heap.block)) is.asked.rate ∙ ap (λ b. first_frames r.rate start.terms (n * b)) is.asked.block in (
+      full r start.terms n,
+      inr (n, full_after r start e n is spent, refl),
+      (refl, holds r.to (first_frames r.rate start.terms (n * r.block)) old mid new is_new (wrote ∙ ap (λ b. written b mid.created) bytes), printed),
+    )
+
+-- the line of a full pool was begun
+pub fills_told : (r : Render) (start e : EngineState) (old new : HostState) (n : ℕ) → IsNew r start → IsSpentAfter start e n → FaultTold (full_line_of n) old new
+    → ToldAs (HasPlayOutcome r start.terms e) old new
+fills_told r start e old new n is spent told = (full r start.terms n, inr (n, full_after r start e n is spent, refl), told)
+
+-- ---- outcomes of outcomes
+
+pub ends_on : {P Q : Outcome → Type 0} (s : Status) (old new : HostState) → ((o : Outcome) → P o → Q o) → EndsAs P s old new → EndsAs Q s old new
+ends_on s old new on ended = (ended.0, on ended.0 ended.1, ended.2)
+
+pub told_on : {P Q : Outcome → Type 0} (old new : HostState) → ((o : Outcome) → P o → Q o) → ToldAs P old new → ToldAs Q old new
+told_on old new on told = (told.0, on told.0 told.1, told.2)
+
+-- an engine of a tree's terms is left
+pub of_tree : (r : Render) (tree : Tree) (terms : List Term) (e : EngineState) (left : Option EngineState) → tree_terms r.rate tree ≡ Some terms → left ≡ Some e
+    → (o : Outcome) → HasPlayOutcome r terms e o → HasTreeOutcome (render r) tree left o
+of_tree r tree terms e left is left_is o has =
+    subst (λ (l : Option EngineState). HasTermsOutcome r (tree_terms r.rate tree) l o) (sym left_is)
+    (subst (λ (ts : Option (List Term)). HasTermsOutcome r ts (Some e) o) (sym is) has)
+
+-- a tree that can't be played yet
+pub of_no_tree : (r : Render) (tree : Tree) (left : Option EngineState) → tree_terms r.rate tree ≡ None → left ≡ None → HasTreeOutcome (render r) tree left (refused form_line)
+of_no_tree r tree left none left_is =
+    subst (λ (ts : Option (List Term)). HasTermsOutcome r ts left (refused form_line)) (sym none) (left_is, refl)
+
+-- a first part of the file of a tree
+pub made_of_tree : (r : Render) (tree : Tree) (terms : List Term) (old new : HostState) → tree_terms r.rate tree ≡ Some terms → MadePart r.to (file_of r.rate terms) old new → MadeTree (render r) tree old new
+made_of_tree r tree terms old new is part = inr (terms, is, part)
+
+not_whole : (s t : Status) → IsTrue (is_whole s) → s ≡ t → is_whole t ≡ false → ⊥
+not_whole s t whole is off =
+    let e : false ≡ true = sym off ∙ sym (ap is_whole is) ∙ whole in
+    cc
+
+-- of the ends of a full pool only one is whole
+pub only_full : (s : Status) → IsTrue (is_whole s) → (s ≡ status.PoolFull) ⊎ (s ≡ status.WriteFault) ⊎ (s ≡ status.OutOfMemory) → s ≡ status.PoolFull
+only_full s whole (inl is) = is
+only_full s whole (inr (inl is)) = absurd (not_whole s status.WriteFault whole is refl)
+only_full s whole (inr (inr is)) = absurd (not_whole s status.OutOfMemory whole is refl)
+
+-- of the ends of a text that is printed only one is whole
+pub only_ok : (s : Status) → IsTrue (is_whole s) → (s ≡ status.Ok) ⊎ (s ≡ status.WriteFault) ⊎ (s ≡ status.OutOfMemory) → s ≡ status.Ok
+only_ok s whole (inl is) = is
+only_ok s whole (inr (inl is)) = absurd (not_whole s status.WriteFault whole is refl)
+only_ok s whole (inr (inr is)) = absurd (not_whole s status.OutOfMemory whole is refl)
+
+pub ends_at : (P : Outcome → Type 0) (s t : Status) (old new : HostState) → s ≡ t → EndsAs P t old new → EndsAs P s old new
+ends_at P s t old new is ended = subst (λ u. EndsAs P u old new) (sym is) ended
+
+-- a tree that is checked
+pub of_check : (task : Task) (tree : Tree) (left : Option EngineState) → task ≡ check → left ≡ None → HasTreeOutcome task tree left (checked tree)
+of_check task tree left is none = subst (λ t. HasTreeOutcome t tree left (checked tree)) (sym is) (none, refl)
+
+-- the middle of three cases
+pub in_middle : {A B C D : Type 0} → (B → C) → A ⊎ B ⊎ D → A ⊎ C ⊎ D
+in_middle on (inl a) = inl a
+in_middle on (inr (inl b)) = inr (inl (on b))
+in_middle on (inr (inr d)) = inr (inr d)

@@ -1,0 +1,9 @@
+pub mod Corners
+pub mod Loudnesses
+pub mod Noises
+pub mod OnLines
+pub mod PartWritten
+pub mod Phases
+pub mod Risings
+pub mod Runs
+pub mod Reaching

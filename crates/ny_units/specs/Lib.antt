@@ -1,0 +1,4 @@
+pub mod Lines
+pub mod Envelopes
+pub mod Playing
+pub mod Voices

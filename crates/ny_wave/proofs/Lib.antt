@@ -1,0 +1,2 @@
+pub mod Arches
+pub mod Steps
