@@ -4,8 +4,12 @@
 #[cfg(test)]
 mod checks;
 #[cfg(test)]
+mod files;
+#[cfg(test)]
 mod hosts;
 #[cfg(test)]
 mod pools;
 #[cfg(test)]
 mod renders;
+#[cfg(test)]
+mod sounds;

@@ -1,3 +1,4 @@
+use crate::files::mono_file;
 use crate::hosts::{Fault, Kind, host, status_of, words};
 use ny_top::{Status, run};
 use std::alloc::{AllocError, Global};
@@ -13,15 +14,7 @@ fn file(alloc: Global, runs: &[(u32, [u8; 2])]) -> Result<Vec<u8>, AllocError> {
             frames.extend_from_slice(sample)?;
         }
     }
-    let size = frames.len().min(65_536) as u32;
-    let mut bytes = Vec::from_slice(alloc, b"RIFF")?;
-    bytes.extend_from_slice(&size.saturating_add(36).to_le_bytes())?;
-    bytes.extend_from_slice(
-        b"WAVEfmt \x10\0\0\0\x01\0\x01\0\x40\x1f\0\0\x80\x3e\0\0\x02\0\x10\0data",
-    )?;
-    bytes.extend_from_slice(&size.to_le_bytes())?;
-    bytes.extend_from_slice(&frames)?;
-    Ok(bytes)
+    mono_file(alloc, &frames)
 }
 
 /// Texts, and the runs of equal samples that they play.

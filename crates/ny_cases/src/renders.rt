@@ -114,7 +114,7 @@ type Refusal = (
 
 const SONG: &[u8] = b"play const(0.5, 0.001)";
 
-const REFUSALS: [Refusal; 32] = [
+const REFUSALS: [Refusal; 29] = [
     // Words that are no command.
     (
         "render a.sal",
@@ -301,39 +301,12 @@ const REFUSALS: [Refusal; 32] = [
     ),
     (
         COMMAND,
-        b"play const(0.5, -1)",
-        None,
-        AMPLE,
-        Status::Refused,
-        None,
-        b"refused: form\n",
-    ),
-    (
-        COMMAND,
-        b"play const(--1, 1)",
-        None,
-        AMPLE,
-        Status::Refused,
-        None,
-        b"refused: form\n",
-    ),
-    (
-        COMMAND,
         b"play const(0.5, 0.001) +",
         None,
         AMPLE,
         Status::Refused,
         None,
         b"refused: parse 24\n",
-    ),
-    (
-        COMMAND,
-        b"play s-rest(1)",
-        None,
-        AMPLE,
-        Status::Refused,
-        None,
-        b"refused: form\n",
     ),
     (
         COMMAND,
@@ -463,22 +436,18 @@ fn long_texts(rt: HostRuntime) -> Result<(), Fail> {
     Ok(())
 }
 
+// The highest sum that a text may hold.
 #[test]
-fn a_hundred_constants(rt: HostRuntime) -> Result<(), Fail> {
+fn sum_of_many_constants(rt: HostRuntime) -> Result<(), Fail> {
     let alloc = rt.alloc();
-    let mut text = Vec::from_slice(alloc, b"play const(0.01, 0.001)")?;
-    for _ in 1..100 {
-        text.extend_from_slice(b"+const(0.01, 0.001)")?;
+    let mut text = Vec::from_slice(alloc, b"play const(0.005, 0.001)")?;
+    for _ in 1..199 {
+        text.extend_from_slice(b"+const(0.005, 0.001)")?;
     }
-    let mut most = host(alloc, Vec::from_slice(alloc, &text)?, AMPLE, None)?;
+    let mut most = host(alloc, text, AMPLE, None)?;
     assert_eq!(rt; status_of(alloc, COMMAND, &mut most)?, Status::Ok);
-    let whole = file(alloc, 8, [0xff, 0x7f])?;
+    let whole = file(alloc, 8, [0x5b, 0x7f])?;
     assert_eq!(rt; most.created(), Some(("a.wav", whole.as_slice())));
-
-    text.extend_from_slice(b"+const(0.01, 0.001)")?;
-    let mut more = host(alloc, text, AMPLE, None)?;
-    assert_eq!(rt; status_of(alloc, COMMAND, &mut more)?, Status::Refused);
-    assert_eq!(rt; more.printed(), b"refused: form\n".as_slice());
     Ok(())
 }
 

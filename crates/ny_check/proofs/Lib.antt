@@ -7,4 +7,5 @@ pub mod Pairs
 pub mod ScalarEquation
 pub mod Uses
 pub mod MeaningEquation
+pub mod Counted
 pub mod WorkedRows

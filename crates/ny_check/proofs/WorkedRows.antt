@@ -1,28 +1,25 @@
 -- Small programs and what they mean, by computing.
-use Rattle.std.proofs.Common.{◌≡◌, ℕ, List, [], ◌∷◌, refl, ℤ, pos, negsuc}
+use Rattle.std.proofs.Common.{◌≡◌, ℕ, List, [], ◌∷◌, refl, pos, negsuc}
 use Rattle.std.specs.Prelude.{replicate}
 use Rattle.ny_num.specs.Numbers.{sat, sat_sample, fix_mul, fix_add, whole_units, sample_add, sample_mul}
 use Rattle.ny_num.specs.Grid.{clamp_ticks, ticks_of_micro, index_at, tick_at}
 use Rattle.ny_num.specs.declared.rate.Rate.TheVariants.{R8000, R2205}
-use Rattle.ny_num.specs.declared.timing.Timing.{Timing}
 use Rattle.ny_num.specs.Sound.{timing_of, value_at, sound_of, spanning, sum_timing}
 use Rattle.ny_num.specs.Leaves.{leaf, leaf_timing, arch, wave_entry, increment, entry_at_phase, wave_value, louder_value, key_of, key_frequency, key_hz}
-use Rattle.ny_num.specs.Pointwise.{combined, each_value}
-use Rattle.ny_num.specs.Resampling.{resampled, resampled_timing, other_rate_timing, index_between}
-use Rattle.ny_num.specs.Filters.{one_pole, one_pole_value, comb, comb_value, comb_delay}
-use Rattle.ny_num.specs.Mix.{mix, mix_timing, sum_at, channel, channel_timing}
-use Rattle.ny_warp.specs.declared.env.Env.{Env}
+use Rattle.ny_num.specs.Pointwise.{combined}
+use Rattle.ny_num.specs.Resampling.{resampled}
+use Rattle.ny_num.specs.Filters.{comb, comb_value, comb_delay}
+use Rattle.ny_num.specs.Mix.{mix, mix_timing, sum_at}
 use Rattle.ny_warp.specs.Warp.{scaled}
 use Rattle.ny_warp.specs.Environment.{opening, global_time, shifted, louder, transposed}
-use Rattle.ny_resolve.specs.declared.term.NameId.{NameId}
 use Rattle.ny_check.specs.declared.node.ExprId.{ExprId}
 use Rattle.ny_check.specs.declared.node.Node.{Node}
 use Rattle.ny_check.specs.declared.node.Node.TheVariants as node
 use Rattle.ny_check.specs.declared.node.Function.{Function}
 use Rattle.ny_check.specs.Code.{Code}
 use Rattle.ny_check.specs.Recursion.{by_smaller}
-use Rattle.ny_check.specs.Values.{scalar_of, number_of, test_of}
-use Rattle.ny_check.specs.Behaviours.{const_sound, osc_sound, envelope_sound, sustained_timing, plain_timing, cue_sound}
+use Rattle.ny_check.specs.Values.{scalar_of, number_of}
+use Rattle.ny_check.specs.Behaviours.{const_sound, osc_sound, envelope_sound, sustained_timing, plain_timing}
 use Rattle.ny_check.specs.Meaning.{meaning}
 
 abbrev e : ℕ → ExprId

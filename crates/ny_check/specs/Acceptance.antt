@@ -1,11 +1,11 @@
 -- Which texts are accepted, with which program, and which fault the others have.
-use Rattle.std.specs.Prelude.{◌≡◌, ℕ, nat_lt, Option, Some, None, List}
+use Rattle.std.specs.Prelude.{◌≡◌, ℕ, nat_lt, Option, Some, None, List, [], ◌++◌}
 use Rattle.ny_syntax.specs.declared.tree.Tree.{Tree}
 use Rattle.ny_resolve.specs.declared.fault.Fault.{Fault}
 use Rattle.ny_resolve.specs.declared.fault.CheckWhy.TheVariants as why
 use Rattle.ny_resolve.specs.declared.term.Part.{Part}
 use Rattle.ny_resolve.specs.declared.term.Declared.{Declared}
-use Rattle.ny_resolve.specs.Faults.{noted, noted_if}
+use Rattle.ny_resolve.specs.Faults.{earliest, one_fault, fault_if}
 use Rattle.ny_resolve.specs.Declarations.{ReadWhole, tree_read}
 use Rattle.ny_kinds.specs.Whole.{text_kind, channels_in}
 use Rattle.ny_measures.specs.Depth.{text_depth}
@@ -22,21 +22,25 @@ abbrev pub greatest_weight : ℕ
 greatest_weight = 1000000
 
 -- an operator refuses its operands' kinds, at this least place
-abbrev pub kind_noted : Option ℕ → Option Fault → Option Fault
-kind_noted None first = first
-kind_noted (Some at) first = noted why.Kind at first
+abbrev pub kind_faults : Option ℕ → List Fault
+kind_faults None = []
+kind_faults (Some at) = one_fault why.Kind at
 
--- The first fault of a text that was read: by the order of kinds, and of one kind the one at the least place. Depth and weight
--- are faults at `play`.
-abbrev pub first_fault : ReadWhole → ℕ → Option Fault
-first_fault t play_at =
-    noted_if (nat_lt greatest_weight (text_weight t.declared t.play)) why.TooHeavy play_at
-    (noted_if (nat_lt greatest_depth (text_depth t.declared t.play)) why.TooDeep play_at
-    (kind_noted (text_kind t.declared t.play).fault t.first))
+-- The faults that show when names are known: the refusal at the least place, if there is one; and a text that is too deep or too
+-- heavy, at `play`.
+abbrev pub judged_faults : List Declared → Option Part → ℕ → List Fault
+judged_faults ds play play_at =
+    kind_faults (text_kind ds play).fault ++
+    (fault_if (nat_lt greatest_depth (text_depth ds play)) why.TooDeep play_at ++
+    fault_if (nat_lt greatest_weight (text_weight ds play)) why.TooHeavy play_at)
 
--- the first fault of a text, if it has one; a text is accepted where it has none
+-- all faults of a text: of its reading, and of its kinds, depth and weight
+abbrev pub faults_in : ReadWhole → ℕ → List Fault
+faults_in t play_at = t.faults ++ judged_faults t.declared t.play play_at
+
+-- the first fault of a text, by the order of kinds and of one kind by its place; a text is accepted where it has none
 unfoldable pub fault_of : Tree → Option Fault
-fault_of tree = first_fault (tree_read tree) tree.play_at
+fault_of tree = earliest (faults_in (tree_read tree) tree.play_at)
 
 abbrev pub program_with : List Declared → Option Part → ℕ → Option Code
 program_with ds None channels = None

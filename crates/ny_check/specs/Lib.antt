@@ -3,6 +3,7 @@ pub mod Writing
 pub mod Acceptance
 pub mod Recursion
 pub mod Values
+pub mod Globals
 pub mod Behaviours
 pub mod Parts
 pub mod Meaning

@@ -1,8 +1,10 @@
-ghost use Rattle.std.specs.Prelude.{◌≡◌, ◌<◌, ◌≤◌, ◌^◌, IfOk, IfErr, Some, None};
+ghost use Rattle.std.specs.Prelude.{◌≡◌, ◌<◌, ◌≤◌, ◌^◌, length, IfOk, IfErr, Some, None};
 ghost use Rattle.ny_syntax.specs.Sizes.{tree_size};
 ghost use Rattle.ny_kinds.specs.Whole.{text_kind, channels_in};
-ghost use Rattle.ny_resolve.specs.Declarations.{tree_read, ReadWhole};
-ghost use Rattle.ny_check.specs.Acceptance.{kind_noted, first_fault, fault_of, program_in, program_with, IsRefusal, IsRefusalOr};
+ghost use Rattle.ny_resolve.specs.Faults.{earliest_after};
+ghost use Rattle.ny_resolve.specs.Declarations.{tree_read};
+ghost use Rattle.ny_resolve.specs.Sizes.{text_size};
+ghost use Rattle.ny_check.specs.Acceptance.{kind_faults, judged_faults, fault_of, program_in, program_with, IsRefusal, IsRefusalOr};
 
 use crate::program::Program;
 use crate::write::program;
@@ -32,8 +34,9 @@ impl From<AllocError> for CheckFault {
     }
 }
 
+#[tactic(auto, using(ny_resolve::proofs::Earliest::told))]
 fn kind_noted(at: Option<u32>, first: Option<Fault>) -> Option<Fault>
-    ensures { result ≡ kind_noted at first }
+    ensures { result ≡ earliest_after first (kind_faults at) }
 {
     match at {
         None => first,
@@ -53,15 +56,14 @@ struct Verdict {
 }
 
 /// The first fault of a text that was read.
+#[tactic(auto, using(ny_resolve::proofs::Earliest::told))]
 fn judge(alloc: Global, read: &ReadTree, play_at: u32) -> Result<Verdict, AllocError>
-    ensures fault { IfOk result (λ j. j.fault ≡ first_fault (record { declared = read.now.declared; play = read.now.play; first = read.now.first }) play_at) }
+    requires { length read.now.declared < 2 ^ 32 }
+    ensures fault { IfOk result (λ j. j.fault ≡ earliest_after read.now.first (judged_faults read.now.declared read.now.play play_at)) }
     ensures channels { IfOk result (λ j. j.channels ≡ channels_in (text_kind read.now.declared read.now.play).kind) }
     ensures few { IfOk result (λ j. (1 ≤ j.channels) × (j.channels ≤ 8)) }
 {
     let declared = read.declared.as_slice();
-    if declared.len() > 0xffff_ffff {
-        return Err(AllocError);
-    }
     let found = text_kind(alloc, declared, &read.play)?;
     let deep = GREATEST_DEPTH < text_depth(alloc, declared, &read.play)?;
     let heavy = GREATEST_WEIGHT < text_weight(alloc, declared, &read.play)?;
@@ -75,7 +77,8 @@ fn judge(alloc: Global, read: &ReadTree, play_at: u32) -> Result<Verdict, AllocE
 
 /// The program of a text without a fault, or its first fault.
 fn answer(alloc: Global, read: &ReadTree, verdict: Verdict, end: u32) -> Result<Program, CheckFault>
-    requires few { (1 ≤ verdict.channels) × (verdict.channels ≤ 8) }
+    requires channels { (1 ≤ verdict.channels) × (verdict.channels ≤ 8) }
+    requires few { text_size read.now.declared read.now.play < 2 ^ 32 }
     ensures accepted { IfOk result (λ p. verdict.fault ≡ None) }
     ensures program { IfOk result (λ p. program_with read.now.declared read.now.play verdict.channels ≡ Some p) }
     ensures refused { IfErr result (IsRefusalOr end read.now.play verdict.fault) }

@@ -1,4 +1,4 @@
-ghost use Rattle.std.specs.Prelude.{◌≡◌, ◌<◌, ◌≤◌, ◌^◌, ◌++◌, ◌∷◌, [], length, IfOk, OnOk, IfSome, get_or};
+ghost use Rattle.std.specs.Prelude.{◌≡◌, ◌+◌, ◌<◌, ◌≤◌, ◌^◌, ◌++◌, ◌∷◌, [], length, IfOk, OnOk, IfSome, get_or};
 ghost use Rattle.ny_check.specs.Code.{IsBelow, no_function};
 ghost use Rattle.ny_check.specs.Writing.{Draft_of, put, body_of, empty};
 
@@ -41,19 +41,16 @@ impl Draft {
         }
     }
 
-    /// Adds a node that names only nodes before it, and the free names that are kept of it. A table that is
-    /// too long for its numbers counts as want of memory.
+    /// Adds a node that names only nodes before it, and the free names that are kept of it.
     #[tactic(auto, using(crate::proofs::Grown::pushed_node))]
     pub(crate) fn put(&mut self, node: Node, names: Items<NameId>) -> Result<ExprId, AllocError>
         requires below { IsBelow self.old.functions (length self.old.table.nodes) node }
+        requires room { length self.old.table.nodes < 2 ^ 32 }
         ensures written { IfOk result (λ id. record { table = self.new.table; id = id } ≡ put node names self.old.table) }
         ensures within { IfOk result (λ id. id.0 < length self.new.table.nodes) }
-        ensures grown { OnOk result (length self.old.table.nodes ≤ length self.new.table.nodes) }
+        ensures grown { OnOk result (length self.new.table.nodes ≡ length self.old.table.nodes + 1) }
         ensures functions { OnOk result (self.new.functions ≡ self.old.functions) }
     {
-        if self.nodes.len() > 0xffff_ffff {
-            return Err(AllocError);
-        }
         let id = ExprId(self.nodes.len() as u32);
         self.free.push(names)?;
         self.nodes.push(node)?;
@@ -83,7 +80,8 @@ impl Draft {
         }
     }
 
-    pub(crate) fn finish(self, play: ExprId, channels: u32) -> Program
+    /// The program that plays this.
+    pub(crate) fn finish(self, alloc: Global, play: ExprId, channels: u32) -> Program
         requires play { play.0 < length self.table.nodes }
         requires channels { (1 ≤ channels) × (channels ≤ 8) }
         ensures { result ≡ record { nodes = self.table.nodes; functions = self.functions; play = play; channels = channels; free = self.table.free } }
@@ -93,6 +91,6 @@ impl Draft {
             free,
             functions,
         } = self;
-        Program::of(nodes, functions, play, channels, free)
+        Program::of(alloc, nodes, functions, play, channels, free)
     }
 }

@@ -53,10 +53,7 @@ fn scalar(
     match p.node(e) {
         Node::Number(v) => Ok(Scalar::Number(*v)),
         Node::Local(x) => Ok(scalar_named(*x, names)),
-        Node::Global(global) => {
-            let mut nothing = Scope::new(alloc);
-            scalar(alloc, p, *global, &mut nothing)
-        }
+        Node::Global(value) => Ok(global_scalar(alloc, p, *value)?),
         Node::Call(f, parts) => {
             let arguments = argument_scalars(alloc, p, e, parts.as_slice(), names)?;
             let mut inner = paired(alloc, p.params(*f), arguments.as_slice())?;
@@ -133,6 +130,21 @@ fn scalar(
     }
 }
 
+/// The value of a global variable, as it is kept, or computed where it is not.
+#[cycle(scalar)]
+fn global_scalar(alloc: Global, p: &Program, value: ExprId) -> Result<Scalar, AllocError>
+    requires { value.0 < length p.now.nodes }
+    ensures { IfOk result (λ s. s ≡ scalar_of p.now value.0 []) }
+{
+    match p.kept(value) {
+        Some(kept) => Ok(kept),
+        None => {
+            let mut nothing = Scope::new(alloc);
+            scalar(alloc, p, value, &mut nothing)
+        }
+    }
+}
+
 #[cycle(scalar)]
 fn argument_scalars(
     alloc: Global,
@@ -199,6 +211,15 @@ fn scalars<S>(
 }
 
 impl Program {
+    /// The value of a global variable, which sees no local name (`docs/DEFINITIONS.md`, "Values"). It is
+    /// looked up.
+    pub fn global(&self, alloc: Global, value: ExprId) -> Result<Scalar, AllocError>
+        requires { value.0 < length self.now.nodes }
+        ensures { IfOk result (λ s. s ≡ scalar_of self.now value.0 []) }
+    {
+        global_scalar(alloc, self, value)
+    }
+
     /// What an expression is under these binds, with its value where it is a number or a test
     /// (`docs/DEFINITIONS.md`, "Values").
     pub fn scalar<S>(

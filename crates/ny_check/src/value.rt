@@ -1,3 +1,4 @@
+use crate::node::ExprId;
 use ny_num::Fix;
 use ny_resolve::NameId;
 use sqlite_items::Items;
@@ -21,4 +22,11 @@ pub enum Scalar {
     Number(Fix),
     Test(bool),
     Sound,
+}
+
+/// The value of a global variable, which stands at this place of the table.
+#[derive(Clone, Copy, Debug, PartialEq, Eq)]
+pub(crate) struct GlobalValue {
+    pub(crate) at: ExprId,
+    pub(crate) value: Scalar,
 }

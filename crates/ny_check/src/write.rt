@@ -1,5 +1,7 @@
-ghost use Rattle.std.specs.Prelude.{◌≡◌, ◌<◌, ◌≤◌, length, map, [], ◌∷◌, ◌++◌, All, IfOk, OnOk};
+ghost use Rattle.std.specs.Prelude.{◌≡◌, ◌+◌, ◌<◌, ◌≤◌, ◌^◌, Some, length, map, [], ◌∷◌, ◌++◌, All, IfOk, OnOk};
 ghost use Rattle.ny_check.specs.declared.node.ExprId.{ExprId as IdOf};
+ghost use Rattle.ny_syntax.specs.Sizes.{total};
+ghost use Rattle.ny_resolve.specs.Sizes.{size_of_part, size_of_bound, declared_size, text_size};
 ghost use Rattle.ny_check.specs.Code.{BindsBelow, IsBelow};
 ghost use Rattle.ny_check.specs.Writing.{Written, WrittenParts, WrittenBinds, writing, writing_of_bind, write_parts, write_binds, global_node, call_node, body_of, is_seq, is_in_turn, kept_names, write_declared, empty, program_of};
 
@@ -58,9 +60,11 @@ fn write(
     e: &Part,
     names: Items<NameId>,
 ) -> Result<ExprId, AllocError>
+    requires room { length draft.old.table.nodes + size_of_part e.now ≤ 2 ^ 32 }
     ensures written { IfOk result (λ id. record { table = draft.new.table; id = id } ≡ (writing e.now).write names draft.old.functions draft.old.table) }
     ensures within { IfOk result (λ id. id.0 < length draft.new.table.nodes) }
     ensures grown { OnOk result (length draft.old.table.nodes ≤ length draft.new.table.nodes) }
+    ensures counted { OnOk result (length draft.new.table.nodes ≤ length draft.old.table.nodes + size_of_part e.now) }
     ensures functions { OnOk result (draft.new.functions ≡ draft.old.functions) }
 {
     match &e.term {
@@ -115,9 +119,11 @@ fn write_each(
     parts: &[Part],
     keeps: bool,
 ) -> Result<Items<ExprId>, AllocError>
+    requires room { length draft.old.table.nodes + total (map size_of_part parts.now) ≤ 2 ^ 32 }
     ensures written { IfOk result (λ ids. record { table = draft.new.table; ids = ids } ≡ write_parts keeps (map writing parts.now) draft.old.functions [] draft.old.table) }
     ensures below { IfOk result (λ ids. All (λ (id : IdOf). id.0 < length draft.new.table.nodes) ids) }
     ensures grown { OnOk result (length draft.old.table.nodes ≤ length draft.new.table.nodes) }
+    ensures counted { OnOk result (length draft.new.table.nodes ≤ length draft.old.table.nodes + total (map size_of_part parts.now)) }
     ensures functions { OnOk result (draft.new.functions ≡ draft.old.functions) }
 {
     let mut ids = Items::new(alloc);
@@ -135,9 +141,11 @@ fn write_each_bind(
     draft: &mut Draft,
     binds: &[Bound],
 ) -> Result<Items<(NameId, ExprId)>, AllocError>
+    requires room { length draft.old.table.nodes + total (map size_of_bound binds.now) ≤ 2 ^ 32 }
     ensures written { IfOk result (λ bs. record { table = draft.new.table; binds = bs } ≡ write_binds (map writing_of_bind binds.now) draft.old.functions [] draft.old.table) }
     ensures below { IfOk result (λ bs. BindsBelow (length draft.new.table.nodes) bs) }
     ensures grown { OnOk result (length draft.old.table.nodes ≤ length draft.new.table.nodes) }
+    ensures counted { OnOk result (length draft.new.table.nodes ≤ length draft.old.table.nodes + total (map size_of_bound binds.now)) }
     ensures functions { OnOk result (draft.new.functions ≡ draft.old.functions) }
 {
     let mut written = Items::new(alloc);
@@ -150,7 +158,9 @@ fn write_each_bind(
 
 /// Writes declarations in order.
 fn write_declared(alloc: Global, draft: &mut Draft, ds: &[Declared]) -> Result<(), AllocError>
-    ensures { OnOk result (draft.new ≡ write_declared ds.now draft.old) }
+    requires room { length draft.old.table.nodes + total (map declared_size ds.now) ≤ 2 ^ 32 }
+    ensures written { OnOk result (draft.new ≡ write_declared ds.now draft.old) }
+    ensures counted { OnOk result (length draft.new.table.nodes ≤ length draft.old.table.nodes + total (map declared_size ds.now)) }
 {
     for d in ds {
         let body = write(alloc, draft, &d.body, Items::new(alloc))?;
@@ -160,19 +170,48 @@ fn write_declared(alloc: Global, draft: &mut Draft, ds: &[Declared]) -> Result<(
     Ok(())
 }
 
+/// Keeps the value of a global variable, the declaration of this number.
+fn keep_value(alloc: Global, p: &mut Program, number: usize) -> Result<(), AllocError>
+    ensures { OnOk result (p.new ≡ p.old) }
+{
+    match p.declared(number) {
+        Some(body) => {
+            let value = p.global(alloc, body)?;
+            p.keep(body, value)
+        }
+        None => Ok(()),
+    }
+}
+
+/// Keeps the value of each global variable, in the order of the declarations: each finds those before it
+/// kept.
+fn keep_values(alloc: Global, p: &mut Program, ds: &[Declared]) -> Result<(), AllocError>
+    ensures { OnOk result (p.new ≡ p.old) }
+{
+    for number in 0..ds.len() {
+        if ds[number].is_variable {
+            keep_value(alloc, p, number)?;
+        }
+    }
+    Ok(())
+}
+
 /// The table of a text that plays this, with so many channels.
-#[tactic(auto, unfolding(crate::specs::Writing::program_of))]
+#[tactic(auto, unfolding(crate::specs::Writing::program_of, ny_resolve::specs::Sizes::text_size))]
 pub(crate) fn program(
     alloc: Global,
     ds: &[Declared],
     play: &Part,
     channels: u32,
 ) -> Result<Program, AllocError>
-    requires { (1 ≤ channels) × (channels ≤ 8) }
+    requires channels { (1 ≤ channels) × (channels ≤ 8) }
+    requires few { text_size ds.now (Some play.now) < 2 ^ 32 }
     ensures { IfOk result (λ p. p ≡ program_of ds.now play.now channels) }
 {
     let mut draft = Draft::new(alloc);
     write_declared(alloc, &mut draft, ds)?;
     let play = write(alloc, &mut draft, play, Items::new(alloc))?;
-    Ok(draft.finish(play, channels))
+    let mut p = draft.finish(alloc, play, channels);
+    keep_values(alloc, &mut p, ds)?;
+    Ok(p)
 }

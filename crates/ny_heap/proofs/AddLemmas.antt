@@ -7,11 +7,10 @@ use Rattle.ny_num.specs.declared.timing.Timing.{Timing}
 use Rattle.ny_heap.specs.declared.sound.Sound.{Sound}
 use Rattle.ny_heap.specs.declared.table.Unit.{Unit as UnitData}
 use Rattle.ny_heap.specs.declared.table.Table.{Table}
-use Rattle.ny_heap.specs.declared.table.Work.{Work}
 use Rattle.ny_heap.specs.declared.table.ReadBy.TheVariants.{Outside, Input}
-use Rattle.ny_heap.specs.Heap.{stands_in, blocks_of}
+use Rattle.ny_heap.specs.Heap.{Kind, stands_in, blocks_of}
 use Rattle.ny_heap.specs.Steps.{reader_of}
-use Rattle.ny_heap.specs.Table.{unit_at, input_of, IsUnit, IsTable, IsUnread, list_in, AreLost, Marks, Inserts, Adds, SetsInputs, AreSpent}
+use Rattle.ny_heap.specs.Table.{kind_of, HasGiven, unit_at, input_of, IsUnit, IsTable, IsUnread, list_in, AreLost, Marks, Inserts, Adds, SetsInputs, AreSpent}
 use Rattle.ny_heap.proofs.TableLemmas.{same_some, none_some, some_is}
 use Rattle.ny_heap.proofs.DropLemmas.{list_of_reader}
 use Rattle.ny_heap.proofs.NeedLemmas.{div_below}
@@ -24,10 +23,11 @@ few_blocks block len some more = div_below block (len + (block - 1)) len (omega 
 outside_zero : {j : ℕ} → Outside 0 ≡ Outside j → j ≡ 0
 outside_zero e = sym (Rattle.ny_heap.proofs.MoveLemmas.outside_is e)
 
-module _ (old : Table) (n : ℕ) (x : UnitData) (work : Work) (timing : Timing) (sounds : List Sound) (table : IsTable old) (spent : AreSpent old sounds) (some : 0 < timing.len) (short : timing.len < 2 ^ 32) (early : timing.start < 2 ^ 32) where
+module _ (old : Table) (n : ℕ) (x : UnitData) (kind : Kind) (timing : Timing) (sounds : List Sound) (table : IsTable old) (spent : AreSpent old sounds) (some : 0 < timing.len) (short : timing.len < 2 ^ 32) (early : timing.start < 2 ^ 32) where
   -- a unit as it is put into a slot
   pub record IsNew : Type 0 where
-    pub does : x.work ≡ work
+    pub does : kind_of x.work ≡ kind
+    pub given : HasGiven x.work timing.len 0
     pub heard : x.timing ≡ timing
     pub filled : x.filled ≡ 0
     pub gone : x.gone ≡ 0
@@ -36,7 +36,7 @@ module _ (old : Table) (n : ℕ) (x : UnitData) (work : Work) (timing : Timing) 
     pub no_inputs : x.inputs.items ≡ []
     pub room : min (length old.pool.blocks) (blocks_of old.block timing.len) ≤ deque_capacity x.kept
 
-module _ (old mid marked new : Table) (n : ℕ) (x : UnitData) (work : Work) (timing : Timing) (sounds : List Sound) (table : IsTable old) (spent : AreSpent old sounds) (some : 0 < timing.len) (short : timing.len < 2 ^ 32) (early : timing.start < 2 ^ 32) (is : IsNew old n x work timing sounds table spent some short early) (ins : Inserts old mid n x) where
+module _ (old mid marked new : Table) (n : ℕ) (x : UnitData) (kind : Kind) (timing : Timing) (sounds : List Sound) (table : IsTable old) (spent : AreSpent old sounds) (some : 0 < timing.len) (short : timing.len < 2 ^ 32) (early : timing.start < 2 ^ 32) (is : IsNew old n x kind timing sounds table spent some short early) (ins : Inserts old mid n x) where
   mid_here : unit_at mid n ≡ Some x
   mid_here = ap (λ t. unit_at t n) ins.after ∙ Rattle.std.proofs.lemmas.List.get_or-set_same old.units n (Some x) None ins.within
 
@@ -107,7 +107,7 @@ module _ (old mid marked new : Table) (n : ℕ) (x : UnitData) (work : Work) (ti
         let f = spent.first i r y.0 reads y.1 in
         (record y.0 { reader = Input n i }, marked_at i r.node y.0 l.0 y.1, refl, f.1, spent.begins i r reads, subst (λ b. y.0.gone ≤ stands_in b y.0.timing.len 0) (sym (marks.block ∙ mid_block)) (((table.units r.node y.0 y.1).stands (stands_in old.block y.0.timing.len 0) f.0).0)))
 
-    pub adds : Adds old new n work timing sounds
+    pub adds : Adds old new n kind timing sounds
     adds = record {
       table = new_table;
       pool = pool_now;
@@ -116,7 +116,8 @@ module _ (old mid marked new : Table) (n : ℕ) (x : UnitData) (work : Work) (ti
       unit = sets.now;
       there = ap (λ t. unit_at t n) sets.after ∙ at_changed marked n sets.was sets.now marked.pool sets.there;
       blank = record {
-        does = ap (λ (q : UnitData). q.work) now_is ∙ is.does;
+        does = ap (λ (q : UnitData). kind_of q.work) now_is ∙ is.does;
+        given = subst (λ (q : UnitData). HasGiven q.work timing.len 0) (sym now_is) is.given;
         heard = ap (λ (q : UnitData). q.timing) now_is ∙ is.heard;
         filled = ap (λ (q : UnitData). q.filled) now_is ∙ is.filled;
         gone = ap (λ (q : UnitData). q.gone) now_is ∙ is.gone;

@@ -180,7 +180,7 @@ module _ (t : Table) (table : IsTable t) (u : ℕ) (x y : UnitData) (b : BlockId
     owned_else = λ w j z ne at h. owned_before w j z at h;
   }
 
-  pub appended : Appends t (with_unit t u y pool) u samples
+  pub appended : Appends t (with_unit t u y pool) u x.work samples
   appended = record {
     same = record { slots = length-set t.units u (Some y); block = refl; pool = loads.size };
     table = IsTable-replaced t table u x y pool append_replaces;

@@ -12,13 +12,14 @@ use Rattle.ny_heap.specs.declared.table.ReadBy.{ReadBy}
 use Rattle.ny_heap.specs.declared.table.ReadBy.TheVariants.{Outside, Input, Nobody}
 use Rattle.ny_heap.specs.Heap.{Reader, list_of, blocks_of, stands_in, taken_after}
 use Rattle.ny_heap.specs.Steps.{reader_of}
-use Rattle.ny_heap.specs.Table.{unit_at, input_of, kind_of, IsTable, IsReady, Appends, Settles, kept_reader, stepped, reach_of, taken_by_reach, list_in}
+use Rattle.ny_heap.specs.Table.{unit_at, input_of, kind_of, IsInStep, IsTable, IsReady, Appends, Settles, kept_reader, stepped, reach_of, taken_by_reach, list_in}
 use Rattle.ny_heap.specs.View.{IsTightBy, IsTight, IsClean, IsHeap}
 use Rattle.ny_heap.specs.Samples.{CanFill, FillsBlock}
 use Rattle.ny_heap.proofs.TableLemmas.{same_some, none_some, some_is, within}
 use Rattle.ny_heap.proofs.DropLemmas.{reader_in}
 use Rattle.ny_heap.proofs.NeedLemmas.{taken_at, stands_rises, stands_mid}
 use Rattle.ny_heap.proofs.SettleLemmas.{kept_is}
+use Rattle.ny_heap.proofs.PlayLemmas.{in_step}
 
 pub reach_rises : (block : ℕ) (x : UnitData) → reach_of block x.timing x.filled ≤ reach_of block x.timing (x.filled + 1)
 reach_rises block x = omega (arith, mul-le x.filled block (x.filled + 1) block (omega arith) (omega arith))
@@ -77,7 +78,7 @@ can_fill t u table ready = record {
 -- ---- the table once a unit has one block more
 
 module _ (old new : Table) (u : ℕ) (out : List ℤ) (heap : IsHeap old) (fills : FillsBlock old new u out) where
-  abbrev a : Appends old fills.mid u out
+  abbrev a : Appends old fills.mid u fills.work out
   a = fills.appends
 
   abbrev s : Settles fills.mid new u 0 (length fills.appends.was.inputs.items)
@@ -90,7 +91,7 @@ module _ (old new : Table) (u : ℕ) (out : List ℤ) (heap : IsHeap old) (fills
   block_same = s.same.block ∙ a.same.block
 
   -- the unit itself
-  pub now_is : s.now ≡ record a.was { filled = a.was.filled + 1; inputs = s.now.inputs; kept = a.now.kept }
+  pub now_is : s.now ≡ record a.was { work = fills.work; filled = a.was.filled + 1; inputs = s.now.inputs; kept = a.now.kept }
   now_is = s.is ∙ ap (λ (q : UnitData). record q { inputs = s.now.inputs }) (was_now ∙ a.is)
 
   pub unit_was : unit_at old u ≡ Some a.was
@@ -189,7 +190,7 @@ module _ (old new : Table) (u : ℕ) (out : List ℤ) (heap : IsHeap old) (fills
       let is : y ≡ s.now = same_some (sym left ∙ ap (unit_at new) e ∙ s.after) in
       subst (IsTight new w) (sym is) (subst (λ k. IsTight new k s.now) (sym e) (subst (λ (k : UnitData). IsTight new u k) (sym now_is) (here a.was.reader (heap.tight u a.was a.there))))
     where
-      here : (q : ReadBy) → IsTightBy old u a.was q → IsTightBy new u (record a.was { filled = a.was.filled + 1; inputs = s.now.inputs; kept = a.now.kept }) q
+      here : (q : ReadBy) → IsTightBy old u a.was q → IsTightBy new u (record a.was { work = fills.work; filled = a.was.filled + 1; inputs = s.now.inputs; kept = a.now.kept }) q
       here (Outside j) t = t
       here Nobody t = absurd t
       here (Input p i) t =
@@ -209,9 +210,19 @@ module _ (old new : Table) (u : ℕ) (out : List ℤ) (heap : IsHeap old) (fills
       let c = heap.clean w was.0 was.1 i r (ap (λ (k : UnitData). input_of k i) (sym was.2) ∙ reads) in
       (c.0, subst (λ (k : UnitData). k.filled < blocks_of new.block k.timing.len) (sym was.2) (subst (λ b. was.0.filled < blocks_of b was.0.timing.len) (sym block_same) c.1))
 
+  steps : (w : ℕ) (y : UnitData) → unit_at new w ≡ Some y → (w ≡ u) ⊎ (w ≢ u) → IsInStep new.block y
+  steps w y left (inl e) =
+      let is : y ≡ s.now = same_some (sym left ∙ ap (unit_at new) e ∙ s.after) in
+      subst (λ (p : UnitData × ℕ). IsInStep p.1 p.0) (λ i. (sym (is ∙ now_is) i, sym block_same i)) fills.given
+  steps w y left (inr ne) =
+      let was = left_was w y ne left in
+      let x = was.0 in
+      in_step old.block new.block x y block_same (ap (λ (k : UnitData). k.work) was.2) (ap (λ (k : UnitData). k.timing) was.2) (ap (λ (k : UnitData). k.filled) was.2) (heap.steps w x was.1)
+
   pub IsHeap-fills : IsHeap new
   IsHeap-fills = record {
     table = s.table;
     tight = λ w y left. tight w y left (cases_eq w u);
     clean = λ w y left. clean w y left (cases_eq w u);
+    steps = λ w y left. steps w y left (cases_eq w u);
   }

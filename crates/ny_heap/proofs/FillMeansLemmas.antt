@@ -15,7 +15,7 @@ use Rattle.ny_heap.specs.Steps.{reader_of, moved, filled_node}
 use Rattle.ny_heap.specs.Given.{id_in, no_block}
 use Rattle.ny_heap.specs.Table.{unit_at, input_of, kind_of, IsReady, SameBlocks, Appends, Settles, reach_of}
 use Rattle.ny_heap.specs.View.{node_of, state_of, IsHeap}
-use Rattle.ny_heap.specs.Samples.{heard_in, first_of, second_of, CanFill, FillsBlock}
+use Rattle.ny_heap.specs.Samples.{heard_in, first_of, second_of, work_value, CanFill, FillsBlock}
 use Rattle.ny_heap.proofs.TableLemmas.{same_some, none_some}
 use Rattle.ny_heap.proofs.PassLemmas.{id_in-drop}
 use Rattle.ny_heap.proofs.ViewLemmas.{node_of_unit, unit_of_node, block_at-state, content_gone, content_kept, content_past}
@@ -25,7 +25,7 @@ use Rattle.ny_heap.proofs.FillStepLemmas.{node_now}
 use Rattle.ny_heap.proofs.HeardLemmas.{moved_heard, value_by, work_is, heard_first, heard_second, first_same, second_same, nothing_owed, kept_heard}
 
 module _ (B : Type 0) (old new : Table) (u : ℕ) (out : List ℤ) (heap : IsHeap old) (fills : FillsBlock old new u out) (ready : IsReady old u) (whole : length out ≡ old.block) (count peak later_count later_peak : ℕ) where
-  abbrev a : Appends old fills.mid u out
+  abbrev a : Appends old fills.mid u fills.work out
   a = fills.appends
 
   abbrev s : Settles fills.mid new u 0 (length fills.appends.was.inputs.items)
@@ -91,6 +91,7 @@ module _ (B : Type 0) (old new : Table) (u : ℕ) (out : List ℤ) (heap : IsHea
         let now : reach_of old.block a.was.timing a.was.filled + k ≡ a.was.timing.start + (a.was.filled * old.block + k) = omega (arith, not_past) in
         let to : reach_of old.block a.was.timing a.was.filled + k < reach_of old.block a.was.timing (a.was.filled + 1) = omega (arith, not_past) in
         fills.made k (omega (arith, inside, whole)) to
+        ∙ ap (λ n. work_value a.was.work a.was.timing n (heard_in old (reach_of old.block a.was.timing a.was.filled + k)) (map reader_of a.was.inputs.items)) now
         ∙ sym (
         mine.rest (a.was.filled * old.block + k) (omega arith) below
         ∙ work_is a.was.work a.was.timing [] (a.was.timing.start + a.was.filled * old.block) (all_inputs part w u (node_of a.was)) (a.was.timing.start + (a.was.filled * old.block + k)) (heard_in old (reach_of old.block a.was.timing a.was.filled + k)) (map reader_of a.was.inputs.items)

@@ -82,7 +82,7 @@ all_inputs_at B block x now (s ∷ ss) zero filled timing h = one_input B block 
 all_inputs_at B block x now (s ∷ ss) (suc i) filled timing h = all_inputs_at B block x now ss i filled timing (omega arith)
 
 module _ (B : Type 0) (old new : Table) (u : ℕ) (out : List ℤ) (heap : IsHeap old) (fills : FillsBlock old new u out) where
-  abbrev a : Appends old fills.mid u out
+  abbrev a : Appends old fills.mid u fills.work out
   a = fills.appends
 
   abbrev s : Settles fills.mid new u 0 (length fills.appends.was.inputs.items)
@@ -141,7 +141,7 @@ module _ (B : Type 0) (old new : Table) (u : ℕ) (out : List ℤ) (heap : IsHea
   pub node_now : node_of {B = B} s.now ≡ filled_node old.block [] (node_of a.was)
   unfolding nothing
   node_now = ap node_of (now_is old new u out heap fills) ∙ (λ i. record {
-    kind = kind_of a.was.work;
+    kind = fills.kind i;
     timing = a.was.timing;
     filled = a.was.filled + 1;
     inputs = inputs_now i;

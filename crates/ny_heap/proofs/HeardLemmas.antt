@@ -7,13 +7,11 @@ use Rattle.std.specs.Option.{option_map, option_map_or}
 use Rattle.ny_num.specs.Sound as sounds
 use Rattle.ny_num.specs.Sound.{value_at}
 use Rattle.ny_num.specs.declared.timing.Timing.{Timing}
-use Rattle.ny_heap.specs.declared.make.Make.TheVariants.{Leaf, Pair}
-use Rattle.ny_heap.specs.declared.make.Leaf.TheVariants.{Const}
 use Rattle.ny_heap.specs.declared.sound.Sound.{Sound}
 use Rattle.ny_heap.specs.declared.table.Unit.{Unit as UnitData}
 use Rattle.ny_heap.specs.declared.table.Table.{Table}
 use Rattle.ny_heap.specs.declared.table.Work.{Work}
-use Rattle.ny_heap.specs.declared.table.Work.TheVariants.{Made as MadeWork, Channel as ChannelWork}
+use Rattle.ny_heap.specs.declared.table.Work.TheVariants.{Leaf as LeafWork, Pair as PairWork, Channel as ChannelWork}
 use Rattle.ny_heap.specs.Heap.{Reader, Node, taken_after, list_of, Waiting}
 use Rattle.ny_heap.specs.Means.{Parts, Whole, Means, sound_in, input_sound, heard, first_heard, second_heard, op_value, unit_value, nth_block, parts_from, stop_after}
 use Rattle.ny_heap.specs.Steps.{reader_of, moved}
@@ -62,19 +60,19 @@ moved_heard B samples block done x (Some r) m some seen after = by_more (nat_lt 
 
 pub value_by : (work : Work) (t : Timing) (memory kept : List ℤ) (from later : ℕ) (ss rs : List (Option sounds.Sound)) (m : ℕ) → first_heard ss m ≡ first_heard rs m → second_heard ss m ≡ second_heard rs m → unit_value (kind_of work) t memory from ss m ≡ unit_value (kind_of work) t kept later rs m
 value_by ChannelWork t memory kept from later ss rs m first second = first
-value_by (MadeWork (Leaf (Const v))) t memory kept from later ss rs m first second = refl
-value_by (MadeWork (Pair op None None)) t memory kept from later ss rs m first second = λ i. op_value op (first i) (second i)
-value_by (MadeWork (Pair op (Some k) None)) t memory kept from later ss rs m first second = ap (op_value op k) first
-value_by (MadeWork (Pair op None (Some k))) t memory kept from later ss rs m first second = ap (λ a. op_value op a k) first
-value_by (MadeWork (Pair op (Some j) (Some k))) t memory kept from later ss rs m first second = refl
+value_by (LeafWork p) t memory kept from later ss rs m first second = refl
+value_by (PairWork op None None) t memory kept from later ss rs m first second = λ i. op_value op (first i) (second i)
+value_by (PairWork op (Some k) None) t memory kept from later ss rs m first second = ap (op_value op k) first
+value_by (PairWork op None (Some k)) t memory kept from later ss rs m first second = ap (λ a. op_value op a k) first
+value_by (PairWork op (Some j) (Some k)) t memory kept from later ss rs m first second = refl
 
-pub work_is : (work : Work) (t : Timing) (memory : List ℤ) (from : ℕ) (ss : List (Option sounds.Sound)) (m : ℕ) (h : Option Reader → ℤ) (os : List (Option Reader)) → first_heard ss m ≡ first_of h os → second_heard ss m ≡ second_of h os → unit_value (kind_of work) t memory from ss m ≡ work_value work h os
+pub work_is : (work : Work) (t : Timing) (memory : List ℤ) (from : ℕ) (ss : List (Option sounds.Sound)) (m : ℕ) (h : Option Reader → ℤ) (os : List (Option Reader)) → first_heard ss m ≡ first_of h os → second_heard ss m ≡ second_of h os → unit_value (kind_of work) t memory from ss m ≡ work_value work t m h os
 work_is ChannelWork t memory from ss m h os first second = first
-work_is (MadeWork (Leaf (Const v))) t memory from ss m h os first second = refl
-work_is (MadeWork (Pair op None None)) t memory from ss m h os first second = λ i. op_value op (first i) (second i)
-work_is (MadeWork (Pair op (Some k) None)) t memory from ss m h os first second = ap (op_value op k) first
-work_is (MadeWork (Pair op None (Some k))) t memory from ss m h os first second = ap (λ a. op_value op a k) first
-work_is (MadeWork (Pair op (Some j) (Some k))) t memory from ss m h os first second = refl
+work_is (LeafWork p) t memory from ss m h os first second = refl
+work_is (PairWork op None None) t memory from ss m h os first second = λ i. op_value op (first i) (second i)
+work_is (PairWork op (Some k) None) t memory from ss m h os first second = ap (op_value op k) first
+work_is (PairWork op None (Some k)) t memory from ss m h os first second = ap (λ a. op_value op a k) first
+work_is (PairWork op (Some j) (Some k)) t memory from ss m h os first second = refl
 
 pub heard_first : (samples : ℕ → List ℤ) (os : List (Option Reader)) (rest : List (Option sounds.Sound)) (m : ℕ) → rest ≡ [] → first_heard (map (input_sound samples) os ++ rest) m ≡ first_of (λ o. heard (input_sound samples o) m) os
 heard_first samples [] rest m none = ap (λ ss. first_heard ss m) none

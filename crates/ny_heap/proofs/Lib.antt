@@ -4,6 +4,7 @@ pub mod ReplaceLemmas
 pub mod PassLemmas
 pub mod NeedLemmas
 pub mod AppendLemmas
+pub mod PlayLemmas
 pub mod SettleLemmas
 pub mod ViewLemmas
 pub mod LawLemmas

@@ -1,5 +1,5 @@
 -- What a new unit is to a contract.
-use Rattle.std.proofs.Common.{◌≡◌, ◌≢◌, ◌⊎◌, inl, inr, ℕ, suc, ◌+◌, ◌-◌, ◌*◌, ◌<◌, ◌≤◌, cond, List, [], ◌∷◌, ◌++◌, length, drop, get_or, map, Option, None, Some, refl, sym, ap, subst, ◌∙◌, arith, ℤ, pos}
+use Rattle.std.proofs.Common.{◌≡◌, ◌≢◌, ◌⊎◌, inl, inr, ℕ, suc, ◌+◌, ◌-◌, ◌*◌, ◌<◌, ◌≤◌, min, cond, List, [], ◌∷◌, ◌++◌, length, drop, get_or, map, Option, None, Some, refl, sym, ap, subst, ◌∙◌, arith, ℤ, pos}
 use Rattle.std.proofs.lemmas.List.FromFn.{length-map-range_with_len, get_or-map-range_with_len}
 use Rattle.std.proofs.lemmas.Bool.{cases_eq, eq-eqb, ne_eqb}
 use Rattle.std.proofs.lemmas.Nat.{le-div}
@@ -9,15 +9,15 @@ use Rattle.ny_num.specs.declared.timing.Timing.{Timing}
 use Rattle.ny_heap.specs.declared.sound.Sound.{Sound}
 use Rattle.ny_heap.specs.declared.table.Unit.{Unit as UnitData}
 use Rattle.ny_heap.specs.declared.table.Table.{Table}
-use Rattle.ny_heap.specs.declared.table.Work.{Work}
 use Rattle.ny_heap.specs.declared.table.ReadBy.{ReadBy}
 use Rattle.ny_heap.specs.declared.table.ReadBy.TheVariants.{Outside, Input, Nobody}
-use Rattle.ny_heap.specs.Heap.{Reader, Node, HeapState, blocks_of, stands_in}
+use Rattle.ny_heap.specs.Heap.{Kind, Reader, Node, HeapState, blocks_of, stands_in}
 use Rattle.ny_heap.specs.Means.{Parts, Whole, Means, NodeMeans, input_sound, unit_value, all_inputs, nth_block, with_samples, whole_list}
 use Rattle.ny_heap.specs.Steps.{reader_of, without_sounds, new_node, AddsNode, made_inputs, last_stop_of}
-use Rattle.ny_heap.specs.Table.{unit_at, input_of, kind_of, IsTable, list_in, AreSpent, Grows, IsBlank, Adds, Drops}
+use Rattle.ny_heap.specs.Table.{unit_at, input_of, kind_of, HasGiven, IsInStep, IsTable, list_in, AreSpent, Grows, IsBlank, Adds, Drops}
 use Rattle.ny_heap.specs.View.{marks, node_of, state_of, IsTightBy, IsTight, IsClean, IsHeap}
 use Rattle.ny_heap.proofs.TableLemmas.{same_some, none_some, some_is}
+use Rattle.ny_heap.proofs.PlayLemmas.{in_step}
 use Rattle.ny_heap.proofs.DropLemmas.{list_of_reader, reader_in}
 use Rattle.ny_heap.proofs.ViewLemmas.{node_at-state, node_of_unit, unit_of_node, no_node, block_at-state, content_past}
 use Rattle.ny_heap.proofs.StepLemmas.{content_part}
@@ -26,7 +26,7 @@ use Rattle.ny_heap.proofs.SpentLemmas.{Spends, is_listed}
 some_blocks : (block len : ℕ) → 0 < block → 0 < len → 0 < blocks_of block len
 some_blocks block len positive some = le-div 1 (len + (block - 1)) block positive (omega arith)
 
-module _ (old mid new : Table) (n : ℕ) (work : Work) (timing : Timing) (ss : List Sound) (heap : IsHeap old) (grows : Grows old mid) (spent : AreSpent old ss) (adds : Adds mid new n work timing ss) (some : 0 < timing.len) where
+module _ (old mid new : Table) (n : ℕ) (kind : Kind) (timing : Timing) (ss : List Sound) (heap : IsHeap old) (grows : Grows old mid) (spent : AreSpent old ss) (adds : Adds mid new n kind timing ss) (some : 0 < timing.len) where
   block_now : new.block ≡ old.block
   block_now = adds.block ∙ grows.block
 
@@ -98,6 +98,15 @@ module _ (old mid new : Table) (n : ℕ) (work : Work) (timing : Timing) (ss : L
   tight_new : IsTight new n adds.unit
   tight_new = subst (IsTightBy new n adds.unit) (sym adds.blank.outside) adds.blank.gone
 
+  steps_new : IsInStep new.block adds.unit
+  steps_new = subst (λ (p : Timing × ℕ). HasGiven adds.unit.work p.0.len (min (p.1 * new.block) p.0.len)) (λ i. (sym adds.blank.heard i, sym adds.blank.filled i)) (subst (HasGiven adds.unit.work timing.len) none adds.blank.given)
+    where
+      none : 0 ≡ min (0 * new.block) timing.len
+      none = omega arith
+
+  steps_other : (v : ℕ) (y : UnitData) (w : Was v y) → IsInStep new.block y
+  steps_other v y w = in_step old.block new.block w.unit y block_now (ap (λ (q : UnitData). q.work) w.is) (ap (λ (q : UnitData). q.timing) w.is) (ap (λ (q : UnitData). q.filled) w.is) (heap.steps v w.unit w.there)
+
   pub IsHeap-adds : IsHeap new
   IsHeap-adds = record {
     table = adds.table;
@@ -109,12 +118,16 @@ module _ (old mid new : Table) (n : ℕ) (work : Work) (timing : Timing) (ss : L
       | inl e ↦ subst (IsClean new) (same_some (sym adds.there ∙ ap (unit_at new) (sym e) ∙ at)) clean_new
       | inr ne ↦ clean_other v y (was v y ne at)
     ];
+    steps = λ v y at. elim (cases_eq v n) [
+      | inl e ↦ subst (IsInStep new.block) (same_some (sym adds.there ∙ ap (unit_at new) (sym e) ∙ at)) steps_new
+      | inr ne ↦ steps_other v y (was v y ne at)
+    ];
   }
 
   module _ (B : Type 0) (fills peak : ℕ) (gives : Spends B old fills peak ss) where
-    node_is : node_of {B = B} adds.unit ≡ new_node (kind_of work) timing ss []
+    node_is : node_of {B = B} adds.unit ≡ new_node kind timing ss []
     node_is i = record {
-      kind = kind_of (adds.blank.does i);
+      kind = adds.blank.does i;
       timing = adds.blank.heard i;
       filled = adds.blank.filled i;
       inputs = map reader_of (adds.inputs i);
@@ -128,7 +141,7 @@ module _ (old mid new : Table) (n : ℕ) (work : Work) (timing : Timing) (ss : L
     unlisted_new : (j : ℕ) → list_in ss j ≢ Some n
     unlisted_new j e = let x = some_is (unit_at old n) (spent.lost.there j n e) in none_some (sym fresh ∙ x.1)
 
-    pub adds_node : AddsNode (without_sounds {B = B} (state_of old fills peak) ss) (state_of new fills peak) n (new_node (kind_of work) timing ss [])
+    pub adds_node : AddsNode (without_sounds {B = B} (state_of old fills peak) ss) (state_of new fills peak) n (new_node kind timing ss [])
     adds_node = record {
       size = record {
         pool = ap (λ p. length p.blocks) (adds.pool ∙ grows.pool) ∙ ap (λ (q : HeapState B). q.pool) (sym gives.is);
@@ -152,10 +165,10 @@ module _ (old mid new : Table) (n : ℕ) (work : Work) (timing : Timing) (ss : L
       given = made_inputs {B = B} part w ss []
 
       abbrev list : List ℤ
-      list = whole_list (kind_of work) timing (made_inputs {B = B} part w ss [])
+      list = whole_list kind timing (made_inputs {B = B} part w ss [])
 
       abbrev later : Whole
-      later = with_samples w n (whole_list (kind_of work) timing (made_inputs {B = B} part w ss []))
+      later = with_samples w n (whole_list kind timing (made_inputs {B = B} part w ss []))
 
       same_samples : (v : ℕ) → v ≢ n → later.samples v ≡ w.samples v
       same_samples v ne = ap (λ b. cond b list (w.samples v)) (ne_eqb v n ne)
@@ -208,22 +221,22 @@ module _ (old mid new : Table) (n : ℕ) (work : Work) (timing : Timing) (ss : L
                 ∙ (λ i. unit_value (kind_of x.work) x.timing [] (x.timing.start + x.filled * sym block_now i) (sym (all_heard x.inputs.items (λ j r. not_new v j x r from.there)) i ++ (map Some (sym (same_owed v ne) i) ++ [])) (x.timing.start + k));
           })
 
-      given_is : all_inputs part later n (new_node {B = B} (kind_of work) timing ss []) ≡ given
+      given_is : all_inputs part later n (new_node {B = B} kind timing ss []) ≡ given
       given_is =
           (λ i. map (input_sound later.samples) (map reader_of ss) ++ (map Some (owed_here i) ++ []))
           ∙ ap (λ qs. qs ++ []) (all_heard ss (λ i r reads e.
           let l = list_of_reader ss i r reads in
           unlisted_new i (l.0 ∙ ap Some e)) ∙ fused ss)
 
-      mine : NodeMeans part (state_of new fills peak) later n (new_node {B = B} (kind_of work) timing ss [])
+      mine : NodeMeans part (state_of new fills peak) later n (new_node {B = B} kind timing ss [])
       mine = record {
-        len = ap length samples_here ∙ length-map-range_with_len (unit_value (kind_of work) timing [] timing.start given) timing.start timing.len;
+        len = ap length samples_here ∙ length-map-range_with_len (unit_value kind timing [] timing.start given) timing.start timing.len;
         owed = ap length owed_here;
         kept = λ j b e. absurd (none_some (sym (block_at-state B new fills peak n j adds.unit adds.there ∙ content_past new adds.unit j (omega (arith, adds.blank.gone, ap length adds.blank.empty))) ∙ e));
         rest = λ k begin below.
             ap (λ xs. get_or xs k (pos 0)) samples_here
-            ∙ get_or-map-range_with_len (unit_value (kind_of work) timing [] timing.start given) timing.start timing.len k (timing.start + k) (pos 0) below refl
-            ∙ (λ i. unit_value (kind_of work) timing [] (from i) (sym given_is i) (timing.start + k));
+            ∙ get_or-map-range_with_len (unit_value kind timing [] timing.start given) timing.start timing.len k (timing.start + k) (pos 0) below refl
+            ∙ (λ i. unit_value kind timing [] (from i) (sym given_is i) (timing.start + k));
       }
         where
           from : timing.start ≡ timing.start + 0 * new.block

@@ -29,6 +29,7 @@ empty_at n block some = record {
   };
   tight = λ v x at. absurd (none_some at);
   clean = λ v x at. absurd (none_some at);
+  steps = λ v x at. absurd (none_some at);
 }
 
 pub empty_heap : (units : List (Option UnitData)) (pool : Blocks ℤ) (n block : ℕ) → units ≡ [] → pool ≡ record { blocks = replicate n None; len = block } → 0 < block → IsHeap (record { units = units; pool = pool; block = block })

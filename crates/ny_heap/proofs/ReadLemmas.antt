@@ -23,6 +23,7 @@ use Rattle.ny_heap.proofs.ViewLemmas.{node_of_unit, unit_of_node, block_at-state
 use Rattle.ny_heap.proofs.StepLemmas.{trimmed_by, keeps_by, content_part, Holder}
 use Rattle.ny_heap.proofs.ReleaseLemmas.{unmarked, uses_same}
 use Rattle.ny_heap.proofs.FillLemmas.{div_less}
+use Rattle.ny_heap.proofs.PlayLemmas.{in_step}
 use Rattle.ny_heap.proofs.FillStepLemmas.{zeros_at}
 use Rattle.ny_heap.proofs.HearLemmas.{div_on}
 use Rattle.ny_heap.proofs.HeardLemmas.{nth_item}
@@ -85,6 +86,13 @@ module _ (old new : Table) (n to : ℕ) (heap : IsHeap old) (moves : Moves old n
           let is : moves.now ≡ x = same_some (sym moves.after ∙ ap (unit_at new) (sym e) ∙ at) in
           subst (IsClean new) is (subst (IsClean new) (sym moves.is) (λ i r reads. let c = heap.clean n moves.was moves.there i r reads in (c.0, subst (λ b. moves.was.filled < blocks_of b moves.was.timing.len) (sym moves.same.block) c.1)))
       | inr ne ↦ λ i r reads. let c = heap.clean w x (sym (moves.others w ne) ∙ at) i r reads in (c.0, subst (λ b. x.filled < blocks_of b x.timing.len) (sym moves.same.block) c.1)
+    ];
+    steps = λ w x at. elim (cases_eq w n) [
+      | inl e ↦
+          let is : x ≡ moves.now = same_some (sym at ∙ ap (unit_at new) e ∙ moves.after) in
+          let was = is ∙ moves.is in
+          in_step old.block new.block moves.was x moves.same.block (ap (λ (k : UnitData). k.work) was) (ap (λ (k : UnitData). k.timing) was) (ap (λ (k : UnitData). k.filled) was) (heap.steps n moves.was moves.there)
+      | inr ne ↦ in_step old.block new.block x x moves.same.block refl refl refl (heap.steps w x (sym (moves.others w ne) ∙ at))
     ];
   }
 

@@ -17,6 +17,7 @@ use Rattle.ny_heap.specs.View.{marks, node_of, state_of, IsTightBy, IsHeap}
 use Rattle.ny_heap.proofs.TableLemmas.{same_some, none_some, some_is, within}
 use Rattle.ny_heap.proofs.DropLemmas.{one_reader}
 use Rattle.ny_heap.proofs.ViewLemmas.{node_of_unit, unit_of_node, block_at-state, mark_at, length-marks, uses_input}
+use Rattle.ny_heap.proofs.PlayLemmas.{in_step}
 use Rattle.ny_heap.proofs.LawLemmas.{sum_zeros}
 use Rattle.ny_heap.proofs.StepLemmas.{trimmed_by, keeps_by, content_part, Holder, read_outside, input_outside}
 
@@ -42,6 +43,7 @@ IsHeap-drops old new sounds k heap drops = record {
   table = drops.table;
   tight = λ w x at. tight w x at x.reader (heap.tight w x (drops.kept w x at));
   clean = λ w x at i r reads. let c = heap.clean w x (drops.kept w x at) i r reads in (c.0, subst (λ b. x.filled < blocks_of b x.timing.len) (sym drops.same.block) c.1);
+  steps = λ w x at. in_step old.block new.block x x drops.same.block refl refl refl (heap.steps w x (drops.kept w x at));
 }
   where
     tight : (w : ℕ) (x : UnitData) → unit_at new w ≡ Some x → (q : ReadBy) → IsTightBy old w x q → IsTightBy new w x q

@@ -1,16 +1,15 @@
 -- What the lists of a heap hold: parts of whole lists, of which no more than some blocks are there.
-use Rattle.std.specs.Prelude.{◌≡◌, ℕ, ◌+◌, ◌*◌, ◌<◌, ◌≤◌, ◌==◌, if◌then◌else◌, List, [], ◌∷◌, ◌++◌, map, take, drop, Option, None, Some, slice_index_or, length, ℤ, pos}
+use Rattle.std.specs.Prelude.{◌≡◌, ℕ, ◌+◌, ◌-◌, ◌*◌, ◌<◌, ◌≤◌, ◌==◌, if◌then◌else◌, List, [], ◌∷◌, ◌++◌, map, take, drop, Option, None, Some, slice_index_or, length, ℤ, pos}
 use Rattle.std.specs.List.{range_with_len}
 use Rattle.ny_num.specs.Numbers.{sample_add}
 use Rattle.ny_num.specs.Sound as sounds
 use Rattle.ny_num.specs.Sound.{value_at}
 use Rattle.ny_num.specs.declared.timing.Timing.{Timing}
+use Rattle.ny_units.specs.Playing.{leaf_value}
 use Rattle.ny_heap.specs.declared.make.Make.{Make}
 use Rattle.ny_heap.specs.declared.make.Make.TheVariants.{Leaf, Pair}
 use Rattle.ny_heap.specs.declared.make.Op.{Op}
 use Rattle.ny_heap.specs.declared.make.Op.TheVariants.{Add}
-use Rattle.ny_heap.specs.declared.make.Leaf.{Leaf as LeafOf}
-use Rattle.ny_heap.specs.declared.make.Leaf.TheVariants.{Const}
 use Rattle.ny_heap.specs.declared.sound.Sound.{Sound}
 use Rattle.ny_heap.specs.Heap.{Reader, Captured, Waiting, Kind, Made, Mix, Channel, Node, HeapState, node_at, block_at, list_of}
 
@@ -43,9 +42,6 @@ abbrev pub heard : Option sounds.Sound → ℕ → ℤ
 heard None m = pos 0
 heard (Some s) m = value_at s m
 
-abbrev pub leaf_value : LeafOf → Timing → ℕ → ℤ
-leaf_value (Const v) t m = v
-
 abbrev pub op_value : Op → ℤ → ℤ → ℤ
 op_value Add a b = sample_add a b
 
@@ -66,8 +62,9 @@ pair_value op (Some k) None ss m = op_value op k (first_heard ss m)
 pair_value op None (Some k) ss m = op_value op (first_heard ss m) k
 pair_value op (Some j) (Some k) ss m = op_value op j k
 
+-- a leaf's samples are counted from its start
 abbrev pub made_value : Make → Timing → List ℤ → ℕ → List (Option sounds.Sound) → ℕ → ℤ
-made_value (Leaf l) t memory from ss m = leaf_value l t m
+made_value (Leaf l) t memory from ss m = leaf_value l (m - t.start)
 made_value (Pair op a b) t memory from ss m = pair_value op a b ss m
 
 -- the sum of all inputs at an index, from the left, clamped at each step

@@ -1,19 +1,18 @@
 -- What a unit computes from the blocks that are kept. No public clause cites this module.
 use Rattle.std.specs.Prelude.{◌≡◌, ℕ, ◌+◌, ◌-◌, ◌*◌, ◌/◌, ◌%◌, ◌^◌, min, ◌<◌, ◌≤◌, ◌&&◌, nat_lt, nat_le, if◌then◌else◌, List, [], ◌∷◌, map, length, Option, None, Some, slice_index_or, ℤ, pos}
 use Rattle.std.specs.Option.{option_map_or}
-use Rattle.ny_heap.specs.declared.make.Make.TheVariants.{Leaf, Pair}
+use Rattle.ny_num.specs.declared.timing.Timing.{Timing}
+use Rattle.ny_units.specs.Playing.{leaf_value}
 use Rattle.ny_heap.specs.declared.make.Op.{Op}
-use Rattle.ny_heap.specs.declared.make.Leaf.{Leaf as LeafOf}
-use Rattle.ny_heap.specs.declared.make.Leaf.TheVariants.{Const}
 use Rattle.ny_heap.specs.declared.sound.Sound.{Sound}
 use Rattle.ny_heap.specs.declared.table.Unit.{Unit as UnitData}
 use Rattle.ny_heap.specs.declared.table.Table.{Table}
 use Rattle.ny_heap.specs.declared.table.Work.{Work}
-use Rattle.ny_heap.specs.declared.table.Work.TheVariants.{Made as MadeWork, Channel as ChannelWork}
+use Rattle.ny_heap.specs.declared.table.Work.TheVariants.{Leaf as LeafWork, Pair as PairWork, Channel as ChannelWork}
 use Rattle.ny_heap.specs.Heap.{Reader, list_of}
 use Rattle.ny_heap.specs.Means.{op_value}
 use Rattle.ny_heap.specs.Steps.{reader_of}
-use Rattle.ny_heap.specs.Table.{unit_at, reach_of, taken_by_reach, Appends, Settles}
+use Rattle.ny_heap.specs.Table.{unit_at, kind_of, HasGiven, IsInStep, reach_of, taken_by_reach, Appends, Settles}
 use Rattle.ny_heap.specs.View.{contents_of}
 
 -- sample k of a block, where it is there
@@ -40,20 +39,18 @@ abbrev pub second_of : (Option Reader → ℤ) → List (Option Reader) → ℤ
 second_of h [] = pos 0
 second_of h (o ∷ os) = first_of h os
 
-abbrev pub leaf_of : LeafOf → ℤ
-leaf_of (Const v) = v
-
--- what a unit computes from what its inputs have
+-- what an operation makes of what a unit's inputs have
 abbrev pub pair_of : Op → Option ℤ → Option ℤ → (Option Reader → ℤ) → List (Option Reader) → ℤ
 pair_of op None None h os = op_value op (first_of h os) (second_of h os)
 pair_of op (Some k) None h os = op_value op k (first_of h os)
 pair_of op None (Some k) h os = op_value op (first_of h os) k
 pair_of op (Some j) (Some k) h os = op_value op j k
 
-abbrev pub work_value : Work → (Option Reader → ℤ) → List (Option Reader) → ℤ
-work_value ChannelWork h os = first_of h os
-work_value (MadeWork (Leaf l)) h os = leaf_of l
-work_value (MadeWork (Pair op a b)) h os = pair_of op a b h os
+-- what a unit of this timing computes at index m. Leaves follow from the index alone
+abbrev pub work_value : Work → Timing → ℕ → (Option Reader → ℤ) → List (Option Reader) → ℤ
+work_value ChannelWork t m h os = first_of h os
+work_value (LeafWork p) t m h os = leaf_value p.leaf (m - t.start)
+work_value (PairWork op a b) t m h os = pair_of op a b h os
 
 -- these are what an input has from index `from` on, before index `to`
 abbrev pub AreHeard : Table → Option Reader → ℕ → ℕ → List ℤ → Type 0
@@ -89,6 +86,12 @@ pub record CanFill (t : Table) (u from to : ℕ) : Type 0 where
   pub there : unit_at t u ≡ Some unit
   pub hears : (i n : ℕ) (s : Sound) → i < length unit.inputs.items → s ≡ slice_index_or unit.inputs.items i s → list_of s ≡ Some n → CanHear t s n from to
 
+-- the next block of x goes from one index to before another, and its leaf stands there
+pub record IsNextBlock (t : Table) (x : UnitData) (from to : ℕ) : Type 0 where
+  pub begins : from ≡ reach_of t.block x.timing x.filled
+  pub ends : to ≡ reach_of t.block x.timing (x.filled + 1)
+  pub step : IsInStep t.block x
+
 -- these are a given sample throughout, or what an input has
 abbrev pub IsSide : Table → Option ℤ → Option Reader → ℕ → ℕ → List ℤ → Type 0
 IsSide t (Some value) o from to out = (k : ℕ) → k < length out → slice_index_or out k (pos 0) ≡ value
@@ -96,12 +99,15 @@ IsSide t None o from to out = AreHeard t o from to out
 
 -- these are what such work makes of a unit's inputs from index `from` on, before index `to`
 abbrev pub AreMade : Table → UnitData → Work → ℕ → ℕ → List ℤ → Type 0
-AreMade t x work from to out = (k : ℕ) → k < length out → from + k < to → slice_index_or out k (pos 0) ≡ work_value work (heard_in t (from + k)) (map reader_of x.inputs.items)
+AreMade t x work from to out = (k : ℕ) → k < length out → from + k < to → slice_index_or out k (pos 0) ≡ work_value work x.timing (from + k) (heard_in t (from + k)) (map reader_of x.inputs.items)
 
 -- u has one block more, which holds these samples, and what its inputs have passed is given back
 pub record FillsBlock (old new : Table) (u : ℕ) (out : List ℤ) : Type 0 where
   pub mid : Table
-  pub appends : Appends old mid u out
+  pub work : Work
+  pub appends : Appends old mid u work out
+  pub kind : kind_of work ≡ kind_of appends.was.work
+  pub given : HasGiven work appends.was.timing.len (min ((appends.was.filled + 1) * old.block) appends.was.timing.len)
   pub settles : Settles mid new u 0 (length appends.was.inputs.items)
   pub made : AreMade old appends.was appends.was.work (reach_of old.block appends.was.timing appends.was.filled) (reach_of old.block appends.was.timing (appends.was.filled + 1)) out
 

@@ -4,6 +4,7 @@ use Rattle.std.specs.Option.{option_map, option_map_or}
 use Rattle.ny_num.specs.Sound as sounds
 use Rattle.ny_num.specs.Sound.{IsTiming, sum_timing}
 use Rattle.ny_num.specs.declared.timing.Timing.{Timing}
+use Rattle.ny_units.specs.Playing.{IsLeaf, Reaches}
 use Rattle.ny_heap.specs.declared.make.Make.{Make}
 use Rattle.ny_heap.specs.declared.make.Make.TheVariants.{Leaf, Pair}
 use Rattle.ny_heap.specs.declared.sound.Sound.{Sound}
@@ -89,9 +90,9 @@ abbrev pub inputs_of : Make → ℕ
 inputs_of (Leaf l) = 0
 inputs_of (Pair op a b) = count_by is_none (a ∷ b ∷ [])
 
--- when a made unit is heard, where its inputs are heard so
+-- when a made unit is heard, where its inputs are heard so. A leaf that has a sample is one, and has all of them
 abbrev pub IsHeardAs : Make → List Timing → Timing → Type 0
-IsHeardAs (Leaf l) ts t = Unit {0}
+IsHeardAs (Leaf l) ts t = 0 < t.len → IsLeaf l × Reaches l t.len
 IsHeardAs (Pair op a b) [] t = ⊥
 IsHeardAs (Pair op a b) (x ∷ []) t = t ≡ x
 IsHeardAs (Pair op a b) (x ∷ y ∷ ts) t = t ≡ sum_timing x y

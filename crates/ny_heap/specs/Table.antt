@@ -15,7 +15,11 @@ use Rattle.ny_heap.specs.declared.table.ReadBy.TheVariants.{Outside, Input}
 use Rattle.ny_heap.specs.declared.table.Next.{Next}
 use Rattle.ny_heap.specs.declared.table.Next.TheVariants.{Stay, Drop, Pass}
 use Rattle.ny_heap.specs.declared.table.Work.{Work}
-use Rattle.ny_heap.specs.declared.table.Work.TheVariants.{Made as MadeWork, Channel as ChannelWork}
+use Rattle.ny_heap.specs.declared.table.Work.TheVariants.{Leaf as LeafWork, Pair as PairWork, Channel as ChannelWork}
+use Rattle.ny_heap.specs.declared.table.Task.{Task}
+use Rattle.ny_heap.specs.declared.table.Task.TheVariants.{Made as MadeTask, Channel as ChannelTask}
+use Rattle.ny_heap.specs.declared.make.Make.TheVariants.{Leaf, Pair}
+use Rattle.ny_units.specs.Playing.{IsLeaf, Reaches}
 use Rattle.ny_heap.specs.Heap.{Reader, Kind, Made, Channel, blocks_of, taken_after, stands_in, list_of}
 use Rattle.ny_heap.specs.Steps.{reader_of}
 use Rattle.ny_heap.specs.Given.{id_in}
@@ -27,8 +31,38 @@ abbrev pub input_of : UnitData → ℕ → Option Reader
 input_of x i = slice_index_or (map reader_of x.inputs.items) i None
 
 abbrev pub kind_of : Work → Kind
-kind_of (MadeWork make) = Made make
+kind_of (LeafWork p) = Made (Leaf p.leaf)
+kind_of (PairWork op a b) = Made (Pair op a b)
 kind_of ChannelWork = Channel
+
+abbrev pub kind_of_task : Task → Kind
+kind_of_task (MadeTask make) = Made make
+kind_of_task ChannelTask = Channel
+
+-- ---- leaves
+
+abbrev pub IsLeafWork : Work → Type 0
+IsLeafWork (LeafWork p) = Unit {0}
+IsLeafWork (PairWork op a b) = ⊥
+IsLeafWork ChannelWork = ⊥
+
+-- a leaf that has `len` samples has given the first n of them. Other work keeps no place
+abbrev pub HasGiven : Work → ℕ → ℕ → Type 0
+HasGiven (LeafWork p) len n = (p.given ≡ n) × IsLeaf p.leaf × Reaches p.leaf len
+HasGiven (PairWork op a b) len n = Unit {0}
+HasGiven ChannelWork len n = Unit {0}
+
+-- a unit's leaf has given what its unit has filled
+abbrev pub IsInStep : ℕ → UnitData → Type 0
+IsInStep block x = HasGiven x.work x.timing.len (min (x.filled * block) x.timing.len)
+
+-- the leaf of a task is one, and has so many samples
+abbrev pub IsTask : Task → ℕ → Type 0
+IsTask (MadeTask (Leaf l)) len = IsLeaf l × Reaches l len
+IsTask (MadeTask (Pair op a b)) len = Unit {0}
+IsTask ChannelTask len = Unit {0}
+
+-- ---- units
 
 abbrev pub kept_count : Option UnitData → ℕ
 kept_count o = option_map_or (λ x. length x.kept.items) o 0
@@ -213,15 +247,24 @@ pub record IsReady (t : Table) (u : ℕ) : Type 0 where
   pub opened : unit.filled < blocks_of t.block unit.timing.len
   pub computed : (i : ℕ) (r : Reader) (z : UnitData) → input_of unit i ≡ Some r → unit_at t r.node ≡ Some z → taken_after t.block (kind_of unit.work) unit.timing r.timing (unit.filled + 1) ≤ min (z.filled * t.block) z.timing.len
 
--- u has one block more, which holds these samples, and its inputs stand at its next need
-pub record Appends (old new : Table) (u : ℕ) (samples : List ℤ) : Type 0 where
+-- the leaf of u has given its samples before index `to`, where u is one, and all else is as it was
+pub record Plays (old new : Table) (u to : ℕ) : Type 0 where
+  pub was : UnitData
+  pub there : unit_at old u ≡ Some was
+  pub work : Work
+  pub kind : kind_of work ≡ kind_of was.work
+  pub given : HasGiven work was.timing.len (to - was.timing.start)
+  pub after : new ≡ with_unit old u (record was { work = work }) old.pool
+
+-- u, which does this now, has one block more, which holds these samples, and its inputs stand at its next need
+pub record Appends (old new : Table) (u : ℕ) (work : Work) (samples : List ℤ) : Type 0 where
   pub same : SameTable old new
   pub table : IsTable new
   pub was : UnitData
   pub there : unit_at old u ≡ Some was
   pub now : UnitData
   pub after : unit_at new u ≡ Some now
-  pub is : now ≡ record was { filled = was.filled + 1; inputs = now.inputs; kept = now.kept }
+  pub is : now ≡ record was { work = work; filled = was.filled + 1; inputs = now.inputs; kept = now.kept }
   pub inputs : now.inputs.items ≡ map (stepped (reach_of old.block was.timing (was.filled + 1))) was.inputs.items
   pub last : BlockId
   pub kept : now.kept.items ≡ was.kept.items ++ last ∷ []
@@ -370,8 +413,9 @@ pub record Marks (old new : Table) (sounds : List Sound) (n k : ℕ) : Type 0 wh
   pub others : (w : ℕ) → ((j : ℕ) → j < k → list_in sounds j ≢ Some w) → unit_at new w ≡ unit_at old w
 
 -- a unit that has filled nothing, in one caller's hands, over no sound
-pub record IsBlank (t : Table) (x : UnitData) (work : Work) (timing : Timing) : Type 0 where
-  pub does : x.work ≡ work
+pub record IsBlank (t : Table) (x : UnitData) (kind : Kind) (timing : Timing) : Type 0 where
+  pub does : kind_of x.work ≡ kind
+  pub given : HasGiven x.work timing.len 0
   pub heard : x.timing ≡ timing
   pub filled : x.filled ≡ 0
   pub gone : x.gone ≡ 0
@@ -386,14 +430,14 @@ pub record Inserts (old new : Table) (n : ℕ) (x : UnitData) : Type 0 where
   pub after : new ≡ with_unit old n x old.pool
 
 -- n is a new unit over these sounds, which it reads
-pub record Adds (old new : Table) (n : ℕ) (work : Work) (timing : Timing) (sounds : List Sound) : Type 0 where
+pub record Adds (old new : Table) (n : ℕ) (kind : Kind) (timing : Timing) (sounds : List Sound) : Type 0 where
   pub table : IsTable new
   pub pool : new.pool ≡ old.pool
   pub block : new.block ≡ old.block
   pub vacant : unit_at old n ≡ None
   pub unit : UnitData
   pub there : unit_at new n ≡ Some unit
-  pub blank : IsBlank new unit work timing
+  pub blank : IsBlank new unit kind timing
   pub inputs : unit.inputs.items ≡ sounds
   pub marked : (j m : ℕ) (x : UnitData) → list_in sounds j ≡ Some m → unit_at old m ≡ Some x → unit_at new m ≡ Some (record x { reader = Input n j })
   pub others : (w : ℕ) → w ≢ n → ((j : ℕ) → list_in sounds j ≢ Some w) → unit_at new w ≡ unit_at old w
@@ -414,7 +458,7 @@ pub record SetsInputs (old new : Table) (n : ℕ) (sounds : List Sound) : Type 0
   pub after : new ≡ with_unit old n now old.pool
 
 -- what is there once a unit was to be made: nothing new where memory is missing or it has no sample
-abbrev pub IsUnitMade : Table → Table → Work → Timing → List Sound → Result (Option ℕ) AllocError → Type 0
-IsUnitMade old new work timing sounds (Err e) = Drops old new sounds (length sounds)
-IsUnitMade old new work timing sounds (Ok None) = (timing.len ≡ 0) × Drops old new sounds (length sounds)
-IsUnitMade old new work timing sounds (Ok (Some n)) = (0 < timing.len) × (mid : Table) × Grows old mid × Adds mid new n work timing sounds
+abbrev pub IsUnitMade : Table → Table → Kind → Timing → List Sound → Result (Option ℕ) AllocError → Type 0
+IsUnitMade old new kind timing sounds (Err e) = Drops old new sounds (length sounds)
+IsUnitMade old new kind timing sounds (Ok None) = (timing.len ≡ 0) × Drops old new sounds (length sounds)
+IsUnitMade old new kind timing sounds (Ok (Some n)) = (0 < timing.len) × (mid : Table) × Grows old mid × Adds mid new n kind timing sounds

@@ -9,7 +9,7 @@ use Rattle.ny_heap.specs.declared.table.ReadBy.{ReadBy}
 use Rattle.ny_heap.specs.declared.table.ReadBy.TheVariants.{Outside, Input, Nobody}
 use Rattle.ny_heap.specs.Heap.{Reader, Node, HeapState, blocks_of, stands_in}
 use Rattle.ny_heap.specs.Steps.{reader_of, last_stop_of}
-use Rattle.ny_heap.specs.Table.{unit_at, input_of, kind_of, IsTable}
+use Rattle.ny_heap.specs.Table.{unit_at, input_of, kind_of, IsInStep, IsTable}
 
 -- how many sounds outside stand in each of the first n blocks
 abbrev pub marks : ReadBy → ℕ → List ℕ
@@ -66,6 +66,7 @@ pub record IsHeap (t : Table) : Type 0 where
   pub table : IsTable t
   pub tight : (v : ℕ) (x : UnitData) → unit_at t v ≡ Some x → IsTight t v x
   pub clean : (v : ℕ) (x : UnitData) → unit_at t v ≡ Some x → IsClean t x
+  pub steps : (v : ℕ) (x : UnitData) → unit_at t v ≡ Some x → IsInStep t.block x
 
 -- the fields of a heap between two calls
 pub record IsHeapInside (t : Table) (size fills peak : ℕ) (out other : List ℤ) : Type 0 where

@@ -9,10 +9,11 @@ use crate::make::Make;
 use crate::samples::{copy_run, fill_block};
 use crate::sound::{Reading, Sound, begin, same_timing};
 use crate::table::{
-    Table, Work, drop_one, first_lacking, is_unfilled, make_unit, move_sound, stand_at,
+    Table, Task, drop_one, first_lacking, is_unfilled, make_unit, move_sound, stand_at,
 };
 use ny_num::{Sample, Timing};
 use ny_pool::{Pool, SlotId, Slots};
+use ny_wave::Waves;
 use std::alloc::{AllocError, Global};
 use std::marker::{Model, PhantomData};
 
@@ -42,6 +43,8 @@ pub struct Heap<B> {
     // Where a fill computes its block, and a second input of it.
     out: Vec<Sample>,
     other: Vec<Sample>,
+    // What leaves with waves are computed from.
+    waves: Waves,
     branches: PhantomData<B>,
 }
 
@@ -83,6 +86,7 @@ impl<B> Heap<B> {
             peak: 0,
             out,
             other,
+            waves: Waves::all(),
             branches: PhantomData,
         })
     }
@@ -112,7 +116,7 @@ impl<B> Heap<B> {
             &mut self.table,
             alloc,
             self.size,
-            Work::Made(make),
+            Task::Made(make),
             inputs,
             timing,
         )?;
@@ -153,7 +157,7 @@ impl<B> Heap<B> {
             &mut self.table,
             alloc,
             self.size,
-            Work::Channel,
+            Task::Channel,
             parts,
             timing,
         )?;
@@ -252,6 +256,7 @@ impl<B> Heap<B> {
         }
         fill_block(
             &mut self.table,
+            &self.waves,
             u.0.0,
             self.out.as_mut_slice(),
             self.other.as_mut_slice(),

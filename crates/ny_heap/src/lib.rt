@@ -12,5 +12,6 @@ mod sound;
 mod table;
 
 pub use heap::{FillFault, Heap, UnitId};
-pub use make::{Leaf, Make, Op};
+pub use make::{Make, Op};
+pub use ny_units::{Knot, Leaf};
 pub use sound::Sound;

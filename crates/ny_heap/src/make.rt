@@ -1,11 +1,5 @@
 use ny_num::Sample;
-
-/// A sound that is made of no other (`docs/DEFINITIONS.md`, "Leaves").
-#[derive(Clone, Copy, Debug, PartialEq, Eq)]
-pub enum Leaf {
-    /// The same sample throughout.
-    Const(Sample),
-}
+use ny_units::Leaf;
 
 /// An operation on two samples (`docs/DEFINITIONS.md`, "Pointwise sounds").
 #[derive(Clone, Copy, Debug, PartialEq, Eq)]
@@ -15,7 +9,7 @@ pub enum Op {
 }
 
 /// What a unit computes, and of how many sounds.
-#[derive(Clone, Copy, Debug, PartialEq, Eq)]
+#[derive(Drop)]
 pub enum Make {
     /// Of none.
     Leaf(Leaf),

@@ -1,20 +1,22 @@
-ghost use Rattle.std.specs.Prelude.{◌≡◌, ℕ, ◌+◌, ◌-◌, ◌*◌, ◌/◌, ◌%◌, min, ◌<◌, ◌≤◌, ◌++◌, length, take, drop, Some, None, IsSome, IsSomeAnd, slice_index_or, replicate, ℤ, pos, map};
+ghost use Rattle.std.specs.Prelude.{◌≡◌, ℕ, ◌+◌, ◌-◌, ◌*◌, ◌/◌, ◌%◌, min, ◌<◌, ◌≤◌, ◌++◌, length, take, drop, Some, None, IsSome, IsSomeAnd, slice_index_or, replicate, List, Option, ℤ, pos, map};
 ghost use Rattle.std.specs.Option.{ForSome};
 ghost use Rattle.ny_pool.specs.Blocks.{free_of};
 ghost use Rattle.ny_num.specs.Numbers.{sample_add};
-ghost use Rattle.ny_heap.specs.Heap.{blocks_of, list_of};
+ghost use Rattle.ny_num.specs.declared.timing.Timing.{Timing};
+ghost use Rattle.ny_units.specs.Playing.{leaf_value, Reaches};
+ghost use Rattle.ny_heap.specs.Heap.{Reader, blocks_of, list_of};
 ghost use Rattle.ny_heap.specs.Steps.{reader_of, run_of};
-ghost use Rattle.ny_heap.specs.Table.{unit_at, IsTable, IsUnit, IsReady, reach_of, taken_by_reach};
-ghost use Rattle.ny_heap.specs.Samples.{heard_of, heard_in, AreHeard, CanHear, CanFill, IsSide, AreMade, leaf_of, FillsBlock, CanRead, Copies, HearsRun, AreHeardTo};
-ghost use Rattle.ny_heap.specs.declared.make.Make.TheVariants.{Pair};
+ghost use Rattle.ny_heap.specs.Table.{unit_at, kind_of, IsTable, IsUnit, IsReady, reach_of, taken_by_reach, IsLeafWork, HasGiven, IsInStep, Plays};
+ghost use Rattle.ny_heap.specs.Samples.{work_value, IsNextBlock, heard_of, heard_in, AreHeard, CanHear, CanFill, IsSide, AreMade, FillsBlock, CanRead, Copies, HearsRun, AreHeardTo};
 ghost use Rattle.ny_heap.specs.declared.make.Op.TheVariants.{Add};
-ghost use Rattle.ny_heap.specs.declared.table.Work.TheVariants.{Made as MadeWork};
+ghost use Rattle.ny_heap.specs.declared.table.Work.TheVariants.{Pair as PairWork};
 
-use crate::make::{Leaf, Make};
 use crate::sound::Sound;
 use crate::table::{Table, Unit, Work, append, reach, settle_all, taken_by};
 use ny_num::Sample;
 use ny_pool::SlotId;
+use ny_units::LeafUnit;
+use ny_wave::Waves;
 
 // Writes a run over the samples from `at` on.
 fn write_run(out: &mut [Sample], at: usize, run: &[Sample])
@@ -158,7 +160,7 @@ fn add_sides(
     requires both { length out.old ≡ length other.old }
     ensures len { length out.new ≡ length out.old }
     ensures second { length other.new ≡ length other.old }
-    ensures sums { ForSome (unit_at table.now u) (λ x. AreMade table.now x (MadeWork (Pair Add left right)) from to out.new) }
+    ensures sums { ForSome (unit_at table.now u) (λ x. AreMade table.now x (PairWork Add left right) from to out.new) }
 {
     hear_side(table, u, left, 0, from, to, out);
     let next = if left.is_none() { 1 } else { 0 };
@@ -166,78 +168,97 @@ fn add_sides(
     add_all(out, other);
 }
 
-// What a unit does.
-fn work_of(table: &Table, u: u32) -> Work
-    requires { IsSome (unit_at table.now u) }
-    ensures { ForSome (unit_at table.now u) (λ x. result ≡ x.work) }
+// Plays the next samples of a leaf, in front.
+fn play_front(leaf: &mut LeafUnit, waves: &Waves, place: u32, count: usize, out: &mut [Sample])
+    requires next { place ≡ leaf.old.given }
+    requires within { Reaches leaf.old.leaf (place + count) }
+    requires room { count ≤ length out.old }
+    ensures leaf { leaf.new ≡ record { leaf = leaf.old.leaf; given = place + count } }
+    ensures len { length out.new ≡ length out.old }
+    ensures samples { (k : ℕ) → k < count → slice_index_or out.new k (pos 0) ≡ leaf_value leaf.old.leaf (place + k) }
 {
-    table.units.get(SlotId(u)).work
+    leaf.fill(waves, place, &mut out[..count]);
 }
 
-// The samples of a leaf.
-fn leaf_samples(leaf: Leaf, out: &mut [Sample])
+// Plays the next samples of work that is a leaf, in front.
+fn play(work: &mut Work, waves: &Waves, place: u32, count: usize, out: &mut [Sample])
+    requires is { IsLeafWork work.old }
+    requires given { HasGiven work.old (place + count) place }
+    requires room { count ≤ length out.old }
+    ensures kind { kind_of work.new ≡ kind_of work.old }
+    ensures given { (len : ℕ) → HasGiven work.old len place → HasGiven work.new len (place + count) }
     ensures len { length out.new ≡ length out.old }
-    ensures samples { (k : ℕ) → k < length out.old → slice_index_or out.new k (pos 0) ≡ leaf_of leaf }
+    ensures samples { (t : Timing) (k : ℕ) (h : Option Reader → ℤ) (os : List (Option Reader)) → k < count → slice_index_or out.new k (pos 0) ≡ work_value work.old t (t.start + (place + k)) h os }
 {
-    match leaf {
-        Leaf::Const(value) => set_all(out, value),
+    match work {
+        Work::Leaf(leaf) => play_front(leaf, waves, place, count, out),
+        _ => unreachable!(),
     }
 }
 
-// The samples of what was made.
-fn made_samples(
-    table: &Table,
-    u: u32,
-    make: Make,
-    from: u64,
-    to: u64,
-    out: &mut [Sample],
-    other: &mut [Sample],
-)
-    requires table { IsTable table.now }
-    requires can { CanFill table.now u from to }
-    requires order { from ≤ to }
+// Plays the samples of the next block of a unit that is a leaf.
+fn play_unit(table: &mut Table, waves: &Waves, u: u32, from: u64, to: u64, out: &mut [Sample])
+    requires table { IsTable table.old }
+    requires is { IsSomeAnd (unit_at table.old u) (λ x. IsLeafWork x.work) }
+    requires block { ForSome (unit_at table.old u) (λ x. IsNextBlock table.old x from to) }
     requires room { to ≤ from + length out.old }
-    requires both { length out.old ≡ length other.old }
+    ensures plays { Plays table.old table.new u to }
     ensures len { length out.new ≡ length out.old }
-    ensures second { length other.new ≡ length other.old }
-    ensures samples { ForSome (unit_at table.now u) (λ x. AreMade table.now x (MadeWork make) from to out.new) }
+    ensures samples { ForSome (unit_at table.old u) (λ x. AreMade table.old x x.work from to out.new) }
 {
-    match make {
-        Make::Leaf(leaf) => leaf_samples(leaf, out),
-        Make::Pair(_, left, right) => add_sides(table, u, left, right, from, to, out, other),
-    }
+    let unit = table.units.get_mut(SlotId(u));
+    let place = from - u64::from(unit.timing.start);
+    play(
+        &mut unit.work,
+        waves,
+        place as u32,
+        (to - from) as usize,
+        out,
+    );
 }
 
-/// Computes the samples of a unit's next block, in `out`.
+/// Computes the samples of a unit's next block, in `out`. A leaf moves on.
 pub(crate) fn compute(
-    table: &Table,
+    table: &mut Table,
+    waves: &Waves,
     u: u32,
     from: u64,
     to: u64,
     out: &mut [Sample],
     other: &mut [Sample],
 )
-    requires table { IsTable table.now }
-    requires can { CanFill table.now u from to }
-    requires order { from ≤ to }
+    requires table { IsTable table.old }
+    requires can { CanFill table.old u from to }
+    requires block { ForSome (unit_at table.old u) (λ x. IsNextBlock table.old x from to) }
     requires room { to ≤ from + length out.old }
     requires both { length out.old ≡ length other.old }
+    ensures plays { Plays table.old table.new u to }
     ensures len { length out.new ≡ length out.old }
     ensures second { length other.new ≡ length other.old }
-    ensures samples { ForSome (unit_at table.now u) (λ x. AreMade table.now x x.work from to out.new) }
+    ensures samples { ForSome (unit_at table.old u) (λ x. AreMade table.old x x.work from to out.new) }
 {
-    match work_of(table, u) {
+    match &table.units.get(SlotId(u)).work {
+        Work::Leaf(_) => play_unit(table, waves, u, from, to, out),
+        Work::Pair(_, left, right) => {
+            let (left, right) = (*left, *right);
+            add_sides(table, u, left, right, from, to, out, other);
+        }
         Work::Channel => hear_input(table, u, 0, from, to, out),
-        Work::Made(make) => made_samples(table, u, make, from, to, out, other),
     }
 }
 
 /// Computes and adds a unit's next block, and gives back what its inputs have passed.
-pub(crate) fn fill_block(table: &mut Table, u: u32, out: &mut [Sample], other: &mut [Sample])
+pub(crate) fn fill_block(
+    table: &mut Table,
+    waves: &Waves,
+    u: u32,
+    out: &mut [Sample],
+    other: &mut [Sample],
+)
     requires table { IsTable table.old }
     requires free { 0 < free_of table.old.pool }
     requires ready { IsReady table.old u }
+    requires step { ForSome (unit_at table.old u) (λ x. IsInStep table.old.block x) }
     requires whole { length out.old ≡ table.old.block }
     requires both { length out.old ≡ length other.old }
     ensures len { length out.new ≡ length out.old }
@@ -245,7 +266,7 @@ pub(crate) fn fill_block(table: &mut Table, u: u32, out: &mut [Sample], other: &
     ensures fills { FillsBlock table.old table.new u out.new }
 {
     let (from, to) = bounds(table, u);
-    compute(table, u, from, to, out, other);
+    compute(table, waves, u, from, to, out, other);
     append(table, u, out);
     settle_all(table, u);
 }

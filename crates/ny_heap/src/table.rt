@@ -6,13 +6,15 @@ ghost use Rattle.std.specs.Option.{ForSome};
 ghost use Rattle.ny_heap.specs.Heap.{blocks_of, stands_in, list_of};
 ghost use Rattle.ny_heap.specs.Steps.{reader_of};
 ghost use Rattle.ny_heap.specs.declared.sound.Sound.{Sound as SoundData};
+ghost use Rattle.ny_heap.specs.declared.table.Task.TheVariants.{Made as MadeTask};
 ghost use Rattle.ny_heap.specs.Given.{id_in, AreTaken, GivesAll};
-ghost use Rattle.ny_heap.specs.Table.{unit_at, IsTable, IsUnread, Removes, AreLost, Drops, CanPass, Passed, gone_at, IsReady, Appends, stepped, reach_of, taken_by_reach, Forgets, IsNext, Settles, list_in, lacks_for, lacking, SetsReader, Moves, CanMove, Grows, Marks, IsBlank, Inserts, Adds, AreSpent, SetsInputs, IsUnitMade};
+ghost use Rattle.ny_heap.specs.Table.{unit_at, kind_of, kind_of_task, HasGiven, IsTask, IsTable, IsUnread, Removes, AreLost, Drops, CanPass, Passed, gone_at, IsReady, Appends, stepped, reach_of, taken_by_reach, Forgets, IsNext, Settles, list_in, lacks_for, lacking, SetsReader, Moves, CanMove, Grows, Marks, IsBlank, Inserts, Adds, AreSpent, SetsInputs, IsUnitMade};
 
-use crate::make::Make;
+use crate::make::{Make, Op};
 use crate::sound::{Reading, Sound};
 use ny_num::{Sample, Timing};
 use ny_pool::{BlockId, Pool, SlotId, Slots};
+use ny_units::LeafUnit;
 use std::alloc::{AllocError, Global};
 use std::collections::VecDeque;
 
@@ -27,10 +29,18 @@ pub(crate) enum ReadBy {
     Nobody,
 }
 
-/// What a unit computes.
-#[derive(Clone, Copy)]
-pub(crate) enum Work {
+/// What a unit is to compute.
+#[derive(Drop)]
+pub(crate) enum Task {
     Made(Make),
+    Channel,
+}
+
+/// What a unit computes. A leaf stands where its unit does.
+#[derive(Drop)]
+pub(crate) enum Work {
+    Leaf(LeafUnit),
+    Pair(Op, Option<Sample>, Option<Sample>),
     Channel,
 }
 
@@ -179,7 +189,7 @@ pub(crate) fn append(table: &mut Table, u: u32, samples: &[Sample])
     requires free { 0 < free_of table.old.pool }
     requires ready { IsReady table.old u }
     requires whole { length samples.now ≡ table.old.block }
-    ensures { Appends table.old table.new u samples.now }
+    ensures { ForSome (unit_at table.old u) (λ x. Appends table.old table.new u x.work samples.now) }
 {
     let b = table.pool.take().unwrap();
     table.pool.copy_from(b, samples);
@@ -426,7 +436,8 @@ pub(crate) fn add_unit(
     requires spent { AreSpent table.old inputs.items }
     requires empty { kept.items ≡ [] }
     requires capacity { min (length table.old.pool.blocks) (blocks_of table.old.block timing.len) ≤ deque_capacity kept }
-    ensures { Adds table.old table.new result work timing inputs.items }
+    requires given { HasGiven work timing.len 0 }
+    ensures { Adds table.old table.new result (kind_of work) timing inputs.items }
 {
     let n = insert_unit(
         table,
@@ -445,13 +456,37 @@ pub(crate) fn add_unit(
     n
 }
 
-/// Adds a unit that does this over these sounds, where it has a sample. Where it has none there is
+// How what is made begins.
+fn begin_make(make: Make) -> Work
+    requires { (len : ℕ) × IsTask (MadeTask make) len }
+    ensures kind { kind_of result ≡ kind_of_task (MadeTask make) }
+    ensures given { (len : ℕ) → IsTask (MadeTask make) len → HasGiven result len 0 }
+{
+    match make {
+        Make::Leaf(leaf) => Work::Leaf(LeafUnit::of(leaf)),
+        Make::Pair(op, left, right) => Work::Pair(op, left, right),
+    }
+}
+
+// How a task begins.
+fn begin_work(task: Task) -> Work
+    requires { (len : ℕ) × IsTask task len }
+    ensures kind { kind_of result ≡ kind_of_task task }
+    ensures given { (len : ℕ) → IsTask task len → HasGiven result len 0 }
+{
+    match task {
+        Task::Channel => Work::Channel,
+        Task::Made(make) => begin_make(make),
+    }
+}
+
+/// Adds a unit for this task over these sounds, where it has a sample. Where it has none there is
 /// no unit, and the sounds are dropped, as they are where memory is missing.
 pub(crate) fn make_unit(
     table: &mut Table,
     alloc: Global,
     size: u32,
-    work: Work,
+    task: Task,
     inputs: Vec<Sound>,
     timing: Timing,
 ) -> Result<Option<u32>, AllocError>
@@ -461,7 +496,8 @@ pub(crate) fn make_unit(
     requires early { timing.start < 2 ^ 32 }
     requires few { length inputs.items < 2 ^ 32 }
     requires spent { AreSpent table.old inputs.items }
-    ensures { IsUnitMade table.old table.new work timing inputs.items result }
+    requires task { 0 < timing.len → IsTask task timing.len }
+    ensures { IsUnitMade table.old table.new (kind_of_task task) timing inputs.items result }
 {
     if timing.len == 0 {
         drop_all(table, inputs.as_slice());
@@ -473,6 +509,9 @@ pub(crate) fn make_unit(
             drop_all(table, inputs.as_slice());
             Err(e)
         }
-        Ok(kept) => Ok(Some(add_unit(table, alloc, kept, work, inputs, timing))),
+        Ok(kept) => {
+            let work = begin_work(task);
+            Ok(Some(add_unit(table, alloc, kept, work, inputs, timing)))
+        }
     }
 }

@@ -1,5 +1,6 @@
 ghost use Rattle.std.specs.Prelude.{◌≡◌, ℤ};
 ghost use Rattle.ny_num.specs.Numbers.{sample_add, sample_sub, sample_mul, sample_max, sample_min};
+ghost use Rattle.ny_kernels.specs.Operations.{operation};
 
 use ny_num::Sample;
 
@@ -11,6 +12,21 @@ pub enum Op {
     Mul,
     Max,
     Min,
+}
+
+impl Op {
+    /// What the operation makes of two samples.
+    pub fn of(self, a: Sample, b: Sample) -> Sample
+        ensures { result ≡ operation self a b }
+    {
+        match self {
+            Op::Add => a.add(b),
+            Op::Sub => a.sub(b),
+            Op::Mul => a.mul(b),
+            Op::Max => a.max(b),
+            Op::Min => a.min(b),
+        }
+    }
 }
 
 /// An operation that is known where a loop is compiled, so that the loop neither asks for it nor

@@ -11,3 +11,4 @@ pub mod StandLemmas
 pub mod LooseLemmas
 pub mod LawLemmas
 pub mod StoreLemmas
+pub mod ReadLemmas

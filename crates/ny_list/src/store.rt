@@ -169,7 +169,8 @@ impl Store {
     pub(crate) fn run_from(&self, c: &Cursor, from: u32) -> &[Sample]
         requires stands { 0 < mark_at self.now c.now }
         requires ahead { c.now.place ≤ from }
-        ensures { result.now ≡ run_of self.now c.now from }
+        ensures samples { result.now ≡ run_of self.now c.now from }
+        ensures laws { StoreLaws self.now }
     {
         run_in(&self.table, c.list.0, c.near, from, c.visible)
     }

@@ -1,5 +1,6 @@
 pub mod DecimalText
 pub mod Digits
+pub mod PartAdded
 pub mod Places
 pub mod Points
 pub mod WholeDigits
@@ -12,3 +13,4 @@ pub mod TimingBounds
 pub mod Shares
 pub mod Weights
 pub mod RateLaws
+pub mod Octaves

@@ -19,12 +19,14 @@ module _ (w : ℕ) (some : 0 < w) where
   joined : (a b : ℕ) → a + b ≡ (a / w + b / w) * w + (a % w + b % w)
   joined a b = rw (add-mul (a / w) (b / w) w) (omega (arith, split a, split b))
 
-  kept : (a b : ℕ) → a % w + b % w < w → ((a + b) / w ≡ a / w + b / w) × ((a + b) % w ≡ a % w + b % w)
+  -- the rests of two numbers add up to less than a whole
+  pub kept : (a b : ℕ) → a % w + b % w < w → ((a + b) / w ≡ a / w + b / w) × ((a + b) % w ≡ a % w + b % w)
   kept a b less =
       let q : (a + b) / w ≡ a / w + b / w = quotient_is (a + b) (a / w + b / w) (a % w + b % w) (joined a b) less in
       (q, omega (arith, split (a + b), ap (λ n. n * w) q, joined a b))
 
-  carried : (a b : ℕ) → w ≤ a % w + b % w → ((a + b) / w ≡ a / w + b / w + 1) × ((a + b) % w ≡ a % w + b % w - w)
+  -- or to more
+  pub carried : (a b : ℕ) → w ≤ a % w + b % w → ((a + b) / w ≡ a / w + b / w + 1) × ((a + b) % w ≡ a % w + b % w - w)
   carried a b more =
       let e : (a / w + b / w + 1) * w ≡ (a / w + b / w) * w + 1 * w = add-mul (a / w + b / w) 1 w in
       let q : (a + b) / w ≡ a / w + b / w + 1 = quotient_is (a + b) (a / w + b / w + 1) (a % w + b % w - w) (omega (arith, joined a b, e)) (omega arith) in

@@ -5,6 +5,7 @@
 
 mod decimal;
 mod fix;
+pub mod pitch;
 mod rate;
 mod sample;
 mod ticks;

@@ -7,7 +7,7 @@ mod blocks;
 #[cfg(test)]
 mod canonical;
 #[cfg(test)]
-mod engines;
+mod heaps;
 #[cfg(test)]
 mod kernels;
 #[cfg(test)]

@@ -1,12 +1,2 @@
-pub mod BelowLemmas
-pub mod WantLemmas
-pub mod FillLemmas
-pub mod DriveLemmas
-pub mod MarkLemmas
 pub mod PlayLemmas
 pub mod EngineLemmas
-pub mod MadeLemmas
-pub mod ChannelLemmas
-pub mod ValueLemmas
-pub mod SumLemmas
-pub mod TimingLemmas

@@ -14,12 +14,12 @@ use Rattle.ny_num.specs.Sound.{IsTiming}
 use Rattle.ny_num.specs.Grid.{last_index}
 use Rattle.ny_num.specs.declared.rate.Rate.{Rate}
 use Rattle.ny_num.specs.declared.rate.Rate.TheVariants.{R2205, R4410, R8000, R11025, R16000, R22050, R32000, R44100, R48000}
-use Rattle.ny_pull.specs.Below.{ComesFrom, IsSettled, IsRank, IsRanked, Continues, Below, Drives}
-use Rattle.ny_pull.specs.Playing.{IsPulled, IsPlaying}
-use Rattle.ny_pull.proofs.BelowLemmas.{some_same, same_at, and_some, held_above}
-use Rattle.ny_pull.proofs.WantLemmas.{short_is_open}
-use Rattle.ny_pull.proofs.FillLemmas.{reached_stays}
-use Rattle.ny_pull.proofs.MarkLemmas.{Alike, advanced_by, advanced_node, advanced_same, advanced_from, advanced_other, uses_alike, mark_counts, mark_set}
+use Rattle.ny_eval.specs.Below.{ComesFrom, IsSettled, IsRank, IsRanked, Continues, Below, Drives}
+use Rattle.ny_eval.specs.Playing.{IsPulled, IsPlaying}
+use Rattle.ny_eval.proofs.BelowLemmas.{some_same, same_at, and_some, held_above}
+use Rattle.ny_eval.proofs.WantLemmas.{short_is_open}
+use Rattle.ny_eval.proofs.FillLemmas.{reached_stays}
+use Rattle.ny_eval.proofs.MarkLemmas.{Alike, advanced_by, advanced_node, advanced_same, advanced_from, advanced_other, uses_alike, mark_counts, mark_set}
 
 -- ---- has it ended
 

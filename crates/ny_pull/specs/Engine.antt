@@ -1,29 +1,30 @@
 -- What a contract sees of an engine: what it plays, how much of each channel was pulled, and its heap.
-use Rattle.std.specs.Prelude.{◌≡◌, ℕ, ◌+◌, ◌*◌, ◌<◌, ◌≤◌, List, Option, Some, slice_index, slice_get, slice_set, length, take, drop, sum, ℤ}
+use Rattle.std.specs.Prelude.{◌≡◌, ℕ, ◌+◌, ◌*◌, ◌<◌, ◌≤◌, List, Option, Some, slice_index, slice_index_or, slice_get, slice_set, length, take, drop, sum, ℤ}
 use Rattle.ny_num.specs.declared.rate.Rate.{Rate}
+use Rattle.ny_num.specs.Sound.{silence}
 use Rattle.ny_heap.specs.Heap.{Node, HeapState, node_at, list_of, open_unit}
 use Rattle.ny_heap.specs.Reach.{IsTrimmed}
 use Rattle.ny_heap.specs.Steps.{Passes, advanced}
 use Rattle.ny_heap.specs.declared.sound.Sound.{Sound}
-use Rattle.ny_pull.specs.declared.term.Term.{Term}
 use Rattle.ny_pull.specs.declared.fault.PullFault.{PullFault}
 use Rattle.ny_pull.specs.declared.fault.PullFault.TheVariants.{PoolFull}
-use Rattle.ny_pull.specs.Channel.{channel_of}
-use Rattle.ny_pull.specs.Order.{FillsInOrder, StopsInOrder}
+use Rattle.ny_check.specs.Code.{Code}
+use Rattle.ny_check.specs.Channels.{channels}
+use Rattle.ny_eval.specs.Order.{FillsInOrder, StopsInOrder}
 
 -- `channels` has for each channel what is still to be pulled of it, `pulled` how many pulls of it gave samples. `spent`
--- is the fault that ended the engine. No part of a sum waits, so the type of the heap's waiting parts says nothing
+-- is the fault that ended the engine. No part waits yet, so the type of the heap's waiting parts says nothing
 pub record EngineState : Type 0 where
-  pub terms : List Term
+  pub code : Code
   pub rate : Rate
   pub channels : List Sound
   pub pulled : List ℕ
   pub spent : Option PullFault
   pub heap : HeapState (Unit {0})
 
--- the samples of a channel, from its first on
+-- the samples of a channel, from its first on, as the strict meaning has them
 abbrev pub channel_at : EngineState → ℕ → List ℤ
-channel_at e c = channel_of e.terms
+channel_at e c = (slice_index_or (channels e.code e.rate) c (silence e.rate)).samples
 
 -- how many samples the whole blocks have that were pulled of a channel
 abbrev pub passed_of : EngineState → ℕ → ℕ
@@ -48,7 +49,7 @@ with_pull pulled c = slice_set pulled c (slice_index pulled c + 1)
 
 -- what no pull changes
 pub record SamePiece (old new : EngineState) : Type 0 where
-  pub terms : new.terms ≡ old.terms
+  pub code : new.code ≡ old.code
   pub rate : new.rate ≡ old.rate
   pub channels : length new.channels ≡ length old.channels
   pub pool : new.heap.pool ≡ old.heap.pool

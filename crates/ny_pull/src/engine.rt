@@ -1,14 +1,14 @@
-ghost use Rattle.std.specs.Prelude.{◌≡◌, ℕ, ◌<◌, ◌≤◌, ◌↔◌, ◌++◌, [], ◌∷◌, ◌⊎◌, nat_lt, if◌then◌else◌, IsTrue, None, Some, Ok, Err, IfSome, IfOk, IfErr, OnOk, OnErr, length, drop, sum};
+ghost use Rattle.std.specs.Prelude.{◌≡◌, ℕ, ◌<◌, ◌≤◌, ◌↔◌, ◌++◌, [], ◌∷◌, ◌⊎◌, nat_lt, if◌then◌else◌, IsTrue, true, None, Some, Ok, Err, IfSome, IfOk, IfErr, OnOk, OnErr, length, drop, sum};
 ghost use Rattle.ny_num.specs.Grid.{last_index};
-ghost use Rattle.ny_pull.specs.Channel.{longest};
+ghost use Rattle.ny_check.specs.Channels.{channels};
+ghost use Rattle.ny_eval.specs.Built.{is_built};
 ghost use Rattle.ny_heap.specs.Heap.{live_of};
 ghost use Rattle.ny_heap.specs.Reach.{HeapLaws};
 ghost use Rattle.ny_pull.specs.Engine.{EngineState, channel_at, next_block, HasEnded, IsReadByChannels, with_pull, SamePiece, GivesBlock, StopsAtFull, full_of};
 
-use crate::drive::drive_within;
 use crate::fault::PullFault;
-use crate::sum::{make_channel, make_sum};
-use crate::term::Term;
+use ny_check::Program;
+use ny_eval::{drive, eval_channels};
 use ny_heap::{Heap, Sound};
 use ny_num::{Rate, Sample};
 use std::alloc::{AllocError, Global};
@@ -17,7 +17,7 @@ use std::marker::Model;
 /// One channel that is computed as it is pulled, a block at a time.
 #[derive(Drop)]
 pub struct Engine {
-    terms: Vec<Term>,
+    program: Program,
     rate: Rate,
     heap: Heap<()>,
     // What is still to be pulled.
@@ -34,39 +34,41 @@ impl Model for Engine {
 
     ghost use Rattle.ny_pull.specs.Inside.{IsEngineInside};
 
-    ghost view = { λ e. record { terms = e.terms.items; rate = e.rate; channels = e.channel ∷ []; pulled = e.pulls ∷ []; spent = e.spent; heap = e.heap } };
+    ghost view = { λ e. record { code = e.program; rate = e.rate; channels = e.channel ∷ []; pulled = e.pulls ∷ []; spent = e.spent; heap = e.heap } };
 
-    ghost invariant = { λ e. IsEngineInside e.terms.items e.heap e.channel e.pulls e.spent };
+    ghost invariant = { λ e. IsEngineInside e.program e.rate e.heap e.channel e.pulls e.spent };
 }
 
 impl Engine {
-    /// An engine for the sum of these terms, over a pool of `pool` blocks of `block` samples each. It
-    /// plays one channel, from its first sample on, and has filled nothing.
+    /// An engine for a program that can be played (`ny_eval::is_built`), at a rate, over a pool of `pool`
+    /// blocks of `block` samples each. It plays one channel, from its first sample on, and has filled
+    /// nothing.
     ///
     /// # Errors
     /// `AllocError` where memory is missing.
     pub fn open(
         alloc: Global,
-        terms: Vec<Term>,
+        program: Program,
         pool: u32,
         block: u32,
         rate: Rate,
     ) -> Result<Engine, AllocError>
-        requires some_terms { 1 ≤ length terms.items }
-        requires few_terms { length terms.items ≤ 100 }
-        requires hour { longest terms.items ≤ last_index rate }
+        requires built { is_built program ≡ true }
         requires pool { (1 ≤ pool) × (pool ≤ 65536) }
         requires block { (16 ≤ block) × (block ≤ 4096) }
-        ensures piece { IfOk result (λ e. (e.terms ≡ terms.items) × (e.rate ≡ rate) × (e.heap.pool ≡ pool) × (e.heap.block ≡ block)) }
-        ensures begins { IfOk result (λ e. (length e.channels ≡ 1) × (e.pulled ≡ 0 ∷ []) × (e.spent ≡ None)) }
+        ensures piece { IfOk result (λ e. (e.code ≡ program) × (e.rate ≡ rate) × (e.heap.pool ≡ pool) × (e.heap.block ≡ block)) }
+        ensures begins { IfOk result (λ e. (length e.channels ≡ length (channels e.code e.rate)) × (length e.channels ≡ 1) × (e.pulled ≡ 0 ∷ []) × (e.spent ≡ None)) }
         ensures unfilled { IfOk result (λ e. (e.heap.fills ≡ 0) × (e.heap.peak ≡ 0)) }
+        ensures hour { IfOk result (λ e. length (channel_at e 0) ≤ last_index rate) }
         ensures laws { IfOk result (λ e. HeapLaws e.heap) }
     {
         let mut heap = Heap::open(alloc, pool, block)?;
-        let sum = make_sum(&mut heap, alloc, terms.as_slice(), rate)?;
-        let channel = make_channel(&mut heap, alloc, sum)?;
+        let mut sounds = eval_channels(alloc, &program, rate, &mut heap)?;
+        let Some(channel) = sounds.pop() else {
+            unreachable!()
+        };
         Ok(Engine {
-            terms,
+            program,
             rate,
             heap,
             channel,
@@ -134,7 +136,7 @@ impl Engine {
         let Some(unit) = self.heap.unit_of(&self.channel) else {
             return Ok(0);
         };
-        if drive_within(&mut self.heap, unit, 2 * self.terms.len() as u32).is_err() {
+        if drive(&self.program, &mut self.heap, unit).is_err() {
             let fault = PullFault::PoolFull {
                 pulls: self.pulls,
                 live: self.heap.live(),

@@ -1,2 +1,5 @@
 pub mod Arguments
+pub mod Earliest
+pub mod Forms
 pub mod Rates
+pub mod PartSizes

@@ -1,5 +1,5 @@
 -- The declarations of a text, and the whole text.
-use Rattle.std.specs.Prelude.{ℕ, ◌+◌, Bool, true, false, ◌||◌, if◌then◌else◌, List, [], ◌∷◌, ◌++◌, length, Option, Some, None, is_some, bytes_eq}
+use Rattle.std.specs.Prelude.{ℕ, ◌+◌, Bool, true, false, ◌||◌, if◌then◌else◌, List, [], ◌∷◌, ◌++◌, map, length, Option, Some, None, is_some, bytes_eq}
 use Rattle.std.specs.Map.{lookup}
 use Rattle.indexmap.specs.IndexMap.{insert_entry}
 use Rattle.ny_syntax.specs.declared.tree.Expr.{Expr}
@@ -14,21 +14,20 @@ use Rattle.ny_resolve.specs.declared.names.Names.{Names}
 use Rattle.ny_resolve.specs.declared.term.Part.{Part}
 use Rattle.ny_resolve.specs.declared.term.NameId.{NameId}
 use Rattle.ny_resolve.specs.declared.term.Declared.{Declared}
-use Rattle.ny_resolve.specs.Faults.{noted}
+use Rattle.ny_resolve.specs.Faults.{one_fault, fault_if}
 use Rattle.ny_resolve.specs.Builtins.{Bytes, builtin_of}
-use Rattle.ny_resolve.specs.Names.{Scope, name_at, with_local, again_noted, seen_after}
+use Rattle.ny_resolve.specs.Names.{Scope, name_at, with_local, again_faults, seen_after}
 use Rattle.ny_resolve.specs.Reading.{reading}
 
 -- ---- what is declared
 
--- the functions and the variables, each name at its first declaration, and the first of the faults noted so far
+-- the functions and the variables, each name at its first declaration
 pub record Declaring : Type 0 where
   pub functions : List (Bytes × Called)
   pub variables : List (Bytes × ℕ)
-  pub first : Option Fault
 
-abbrev pub declaring_of : Names → Option Fault → Declaring
-declaring_of names first = record { functions = names.functions.entries; variables = names.variables.entries; first = first }
+abbrev pub declaring_of : Names → Declaring
+declaring_of names = record { functions = names.functions.entries; variables = names.variables.entries }
 
 abbrev pub is_taken : {A : Type 0} → Bytes → List (Bytes × A) → Bool
 is_taken x known = is_some (lookup (bytes_eq x) known)
@@ -37,55 +36,65 @@ is_taken x known = is_some (lookup (bytes_eq x) known)
 abbrev pub function_is_taken : Bytes → List (Bytes × Called) → Bool
 function_is_taken x known = is_some (builtin_of x) || is_taken x known
 
-abbrev pub function_declared : ℕ → Bytes → Called → Declaring → Declaring
-function_declared at x f d =
-    if function_is_taken x d.functions then record { functions = d.functions; variables = d.variables; first = noted why.Redefined at d.first }
-    else record { functions = insert_entry bytes_eq d.functions x f; variables = d.variables; first = d.first }
+abbrev pub function_declared : Bytes → Called → Declaring → Declaring
+function_declared x f d =
+    if function_is_taken x d.functions then d else record { functions = insert_entry bytes_eq d.functions x f; variables = d.variables }
 
-abbrev pub variable_declared : ℕ → Bytes → ℕ → Declaring → Declaring
-variable_declared at x i d =
-    if is_taken x d.variables then record { functions = d.functions; variables = d.variables; first = noted why.Redefined at d.first }
-    else record { functions = d.functions; variables = insert_entry bytes_eq d.variables x i; first = d.first }
+abbrev pub variable_declared : Bytes → ℕ → Declaring → Declaring
+variable_declared x i d =
+    if is_taken x d.variables then d else record { functions = d.functions; variables = insert_entry bytes_eq d.variables x i }
 
--- the declaration of number i
+-- what is declared with the declaration of number i, after those that declare d
 abbrev pub declare : ℕ → Decl → Declaring → Declaring
-declare i (decl.Function at name params body) d = function_declared at name.bytes (record { number = i; params = length params }) d
-declare i (decl.Variable at name value) d = variable_declared at name.bytes i d
+declare i (decl.Function at name params body) d = function_declared name.bytes (record { number = i; params = length params }) d
+declare i (decl.Variable at name value) d = variable_declared name.bytes i d
 
--- declarations in order, from number i on
+-- with declarations in order, from number i on
 abbrev pub declared_after : ℕ → List Decl → Declaring → Declaring
 declared_after i [] d = d
 declared_after i (x ∷ xs) d = declared_after (i + 1) xs (declare i x d)
 
 abbrev pub nothing_declared : Declaring
-nothing_declared = record { functions = []; variables = []; first = None }
+nothing_declared = record { functions = []; variables = [] }
+
+-- a name that is declared already
+abbrev pub declare_faults : Decl → Declaring → List Fault
+declare_faults (decl.Function at name params body) d = fault_if (function_is_taken name.bytes d.functions) why.Redefined at
+declare_faults (decl.Variable at name value) d = fault_if (is_taken name.bytes d.variables) why.Redefined at
+
+-- the faults of the names of declarations from number i on, after those that declare d
+abbrev pub names_faults : ℕ → List Decl → Declaring → List Fault
+names_faults i [] d = []
+names_faults i (x ∷ xs) d = declare_faults x d ++ names_faults (i + 1) xs (declare i x d)
 
 -- ---- what a declaration is
 
-pub record ReadParams : Type 0 where
-  pub params : List NameId
-  pub scope : Scope
-  pub first : Option Fault
+-- parameters, each by the place where it stands
+abbrev pub param_names : List Param → List NameId
+param_names ps = map (λ (p : Param). name_at p.at) ps
 
--- parameters, each seen by the body; `seen` are those before
-abbrev pub read_params : List Param → List (Bytes × NameId) → Scope → List NameId → Option Fault → ReadParams
-read_params [] seen s done first = record { params = done; scope = s; first = first }
-read_params (p ∷ ps) seen s done first =
-    read_params ps (seen_after seen p.name.bytes p.at) (with_local p.name.bytes p.at s) (done ++ name_at p.at ∷ []) (again_noted seen p.name.bytes p.at first)
+-- the scope of a body, which sees each of these
+abbrev pub with_params : List Param → Scope → Scope
+with_params [] s = s
+with_params (p ∷ ps) s = with_params ps (with_local p.name.bytes p.at s)
+
+-- parameters of one name; `seen` are those before
+abbrev pub params_faults : List Param → List (Bytes × NameId) → List Fault
+params_faults [] seen = []
+params_faults (p ∷ ps) seen = again_faults seen p.name.bytes p.at ++ params_faults ps (seen_after seen p.name.bytes p.at)
 
 pub record ReadOne : Type 0 where
   pub declared : Declared
-  pub first : Option Fault
+  pub faults : List Fault
 
 -- a variable is a declaration without parameters, whose body is its value
-abbrev pub declaration_read : Decl → Scope → Option Fault → ReadOne
-declaration_read (decl.Function at name params body) s first =
-    let r = read_params params [] s [] first in
-    let b = (reading body).read r.scope r.first in
-    record { declared = record { params = r.params; body = b.part; is_variable = false }; first = b.first }
-declaration_read (decl.Variable at name value) s first =
-    let b = (reading value).read s first in
-    record { declared = record { params = []; body = b.part; is_variable = true }; first = b.first }
+abbrev pub declaration_read : Decl → Scope → ReadOne
+declaration_read (decl.Function at name params body) s =
+    let b = (reading body).read (with_params params s) in
+    record { declared = record { params = param_names params; body = b.part; is_variable = false }; faults = params_faults params [] ++ b.faults }
+declaration_read (decl.Variable at name value) s =
+    let b = (reading value).read s in
+    record { declared = record { params = []; body = b.part; is_variable = true }; faults = b.faults }
 
 -- what is declared, as the scope of a place in the declaration of number i
 abbrev pub scope_in : Declaring → ℕ → Scope
@@ -93,29 +102,40 @@ scope_in d i = record { functions = d.functions; variables = d.variables; here =
 
 pub record ReadDeclarations : Type 0 where
   pub declared : List Declared
-  pub first : Option Fault
+  pub faults : List Fault
 
 -- declarations in order, from number i on
-abbrev pub declarations_read : Declaring → ℕ → List Decl → List Declared → Option Fault → ReadDeclarations
-declarations_read d i [] done first = record { declared = done; first = first }
-declarations_read d i (x ∷ xs) done first =
-    let r = declaration_read x (scope_in d i) first in declarations_read d (i + 1) xs (done ++ r.declared ∷ []) r.first
+abbrev pub declarations_read : Declaring → ℕ → List Decl → ReadDeclarations
+declarations_read d i [] = record { declared = []; faults = [] }
+declarations_read d i (x ∷ xs) =
+    let r = declaration_read x (scope_in d i) in let rest = declarations_read d (i + 1) xs in
+    record { declared = r.declared ∷ rest.declared; faults = r.faults ++ rest.faults }
 
 -- ---- the whole text
+
+pub record ReadPlay : Type 0 where
+  pub play : Option Part
+  pub faults : List Fault
+
+-- what is played sees all declarations; a text that plays nothing is a fault at its end
+abbrev pub play_read : Declaring → ℕ → ℕ → Option Expr → ReadPlay
+play_read d i end None = record { play = None; faults = one_fault why.NoPlay end }
+play_read d i end (Some e) = let p = (reading e).read (scope_in d i) in record { play = Some p.part; faults = p.faults }
 
 pub record ReadWhole : Type 0 where
   pub declared : List Declared
   pub play : Option Part
-  pub first : Option Fault
+  pub faults : List Fault
 
--- what is played sees all declarations; a text that plays nothing is a fault at its end
-abbrev pub play_read : Declaring → ℕ → ℕ → Option Expr → ReadDeclarations → ReadWhole
-play_read d i end None r = record { declared = r.declared; play = None; first = noted why.NoPlay end r.first }
-play_read d i end (Some e) r =
-    let p = (reading e).read (scope_in d i) r.first in record { declared = r.declared; play = Some p.part; first = p.first }
-
--- The terms of a text, and the first of the faults that it shows before any kind is known.
+-- The terms of a text, and the faults that it shows before any kind is known: those of the names that it declares, of its
+-- declarations and of what it plays.
 abbrev pub tree_read : Tree → ReadWhole
 tree_read tree =
     let d = declared_after 0 tree.decls nothing_declared in
-    play_read d (length tree.decls) tree.end tree.play (declarations_read d 0 tree.decls [] d.first)
+    let r = declarations_read d 0 tree.decls in
+    let p = play_read d (length tree.decls) tree.end tree.play in
+    record {
+      declared = r.declared;
+      play = p.play;
+      faults = names_faults 0 tree.decls nothing_declared ++ (r.faults ++ p.faults);
+    }

@@ -1,6 +1,7 @@
--- The order of faults: by their kind, and those of one kind by their place. A walk over the text notes each fault that it
--- meets, and keeps the one that comes first.
-use Rattle.std.specs.Prelude.{ℕ, Bool, ◌&&◌, ◌||◌, nat_lt, nat_eq, if◌then◌else◌, Option, Some, None}
+-- The order of faults: by their kind, and those of one kind by their place. A text may have many faults, of which the
+-- earliest is told.
+use Rattle.std.specs.Prelude.{ℕ, Bool, ◌&&◌, ◌||◌, nat_lt, nat_eq, if◌then◌else◌, List, [], ◌∷◌, ◌++◌, Option, Some, None}
+use Rattle.std.specs.List.{list_any}
 use Rattle.ny_resolve.specs.declared.fault.Fault.{Fault}
 use Rattle.ny_resolve.specs.declared.fault.CheckWhy.{CheckWhy}
 use Rattle.ny_resolve.specs.declared.fault.CheckWhy.TheVariants as why
@@ -25,15 +26,25 @@ rank why.TooHeavy = 12
 abbrev pub comes_before : Fault → Fault → Bool
 comes_before f g = nat_lt (rank f.why) (rank g.why) || nat_eq (rank f.why) (rank g.why) && nat_lt f.at g.at
 
--- the first of a fault and those before it
-unfoldable pub sooner : Option Fault → Fault → Option Fault
-sooner None f = Some f
-sooner (Some g) f = if comes_before f g then Some f else Some g
+-- The earliest of a list of faults: none of an empty list; the head where none of the others comes before it; else the earliest
+-- of the others.
+unfoldable pub earliest : List Fault → Option Fault
+earliest [] = None
+earliest (f ∷ fs) = if list_any (λ g. comes_before g f) fs then earliest fs else Some f
 
--- the first fault where this one is noted
-abbrev pub noted : CheckWhy → ℕ → Option Fault → Option Fault
-noted w at first = sooner first (record { at = at; why = w })
+-- a fault that there may be, as a list
+abbrev pub if_any : Option Fault → List Fault
+if_any None = []
+if_any (Some f) = f ∷ []
 
--- the same, if this holds
-abbrev pub noted_if : Bool → CheckWhy → ℕ → Option Fault → Option Fault
-noted_if b w at first = if b then noted w at first else first
+-- the earliest of a fault that may be known already, and of these
+unfoldable pub earliest_after : Option Fault → List Fault → Option Fault
+earliest_after known fs = earliest (if_any known ++ fs)
+
+-- one fault alone
+abbrev pub one_fault : CheckWhy → ℕ → List Fault
+one_fault w at = record { at = at; why = w } ∷ []
+
+-- the same, if this holds, and else none
+abbrev pub fault_if : Bool → CheckWhy → ℕ → List Fault
+fault_if b w at = if b then one_fault w at else []

@@ -5,3 +5,4 @@ pub mod Names
 pub mod Reading
 pub mod Declarations
 pub mod Keys
+pub mod Sizes

@@ -9,7 +9,7 @@ use Rattle.ny_resolve.specs.declared.names.Names.{Names}
 use Rattle.ny_resolve.specs.declared.fault.Fault.{Fault}
 use Rattle.ny_resolve.specs.declared.fault.CheckWhy.TheVariants as why
 use Rattle.ny_resolve.specs.Builtins.{Bytes}
-use Rattle.ny_resolve.specs.Faults.{noted, noted_if}
+use Rattle.ny_resolve.specs.Faults.{one_fault, fault_if}
 
 -- The functions and the global variables of the whole text, each name at its first declaration; the number of the declaration
 -- in which the place stands; and the local names that it sees, the nearest last.
@@ -31,19 +31,18 @@ abbrev pub with_local : Bytes → ℕ → Scope → Scope
 with_local x at s = record s { locals = s.locals ++ (x, name_at at) ∷ [] }
 
 -- a use of a global variable: it must be declared, and before the place
-abbrev pub variable_noted : ℕ → ℕ → Option ℕ → Option Fault → Option Fault
-variable_noted at here None first = noted why.UnknownName at first
-variable_noted at here (Some number) first = noted_if (nat_le here number) why.NotYetDefined at first
+abbrev pub variable_faults : ℕ → ℕ → Option ℕ → List Fault
+variable_faults at here None = one_fault why.UnknownName at
+variable_faults at here (Some number) = fault_if (nat_le here number) why.NotYetDefined at
 
 -- a call of a function: it must be declared, before the place, and with so many parameters
-abbrev pub function_noted : ℕ → ℕ → ℕ → Option Called → Option Fault → Option Fault
-function_noted at here n None first = noted why.UnknownName at first
-function_noted at here n (Some f) first =
-    noted_if (not (nat_eq n f.params)) why.Arity at (noted_if (nat_le here f.number) why.NotYetDefined at first)
+abbrev pub function_faults : ℕ → ℕ → ℕ → Option Called → List Fault
+function_faults at here n None = one_fault why.UnknownName at
+function_faults at here n (Some f) = fault_if (nat_le here f.number) why.NotYetDefined at ++ fault_if (not (nat_eq n f.params)) why.Arity at
 
 -- a name of a list that stands there a second time
-abbrev pub again_noted : List (Bytes × NameId) → Bytes → ℕ → Option Fault → Option Fault
-again_noted seen x at first = noted_if (is_some (lookup (bytes_eq x) seen)) why.Redefined at first
+abbrev pub again_faults : List (Bytes × NameId) → Bytes → ℕ → List Fault
+again_faults seen x at = fault_if (is_some (lookup (bytes_eq x) seen)) why.Redefined at
 
 -- the names of a list, each once
 abbrev pub seen_after : List (Bytes × NameId) → Bytes → ℕ → List (Bytes × NameId)

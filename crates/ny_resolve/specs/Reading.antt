@@ -1,4 +1,5 @@
--- The term that an expression is, and the first of the faults noted before and in it.
+-- The term that an expression is, and the faults in it, in the order in which a reader meets them: those of a call or an operator
+-- first, and then those of its parts from left to right.
 use Rattle.std.specs.Prelude.{ℕ, ◌+◌, Bool, true, false, ◌&&◌, not, nat_eq, nat_lt, if◌then◌else◌, List, [], ◌∷◌, ◌++◌, map, length, Option, Some, None, is_some, ℤ, pos, bytes_eq}
 use Rattle.std.specs.Map.{lookup}
 use Rattle.ny_num.specs.declared.rate.Rate.{Rate}
@@ -25,43 +26,44 @@ use Rattle.ny_resolve.specs.declared.term.Bound.{Bound}
 use Rattle.ny_resolve.specs.declared.term.NameId.{NameId}
 use Rattle.ny_resolve.specs.declared.term.Term.{Term}
 use Rattle.ny_resolve.specs.declared.term.Term.TheVariants as term
-use Rattle.ny_resolve.specs.Faults.{noted_if}
+use Rattle.ny_resolve.specs.Faults.{fault_if}
 use Rattle.ny_resolve.specs.Builtins.{Bytes, builtin_of, is_map, arity_of, fits}
 use Rattle.ny_resolve.specs.Literals.{Shape, Literal, Bare, Mapped, Other, bare_in, is_mapped, all_literals, count_of_shape, rate_of_shape, is_good_map, map_literals, value_of_shape, is_zero}
-use Rattle.ny_resolve.specs.Names.{Scope, name_at, local_of, with_local, variable_noted, function_noted, again_noted, seen_after}
+use Rattle.ny_resolve.specs.Names.{Scope, name_at, local_of, with_local, variable_faults, function_faults, again_faults, seen_after}
 
--- what was read, and the first of the faults noted so far
+-- what is read, and the faults in it
 pub record ReadPart : Type 0 where
   pub part : Part
-  pub first : Option Fault
+  pub faults : List Fault
 
 pub record ReadParts : Type 0 where
   pub parts : List Part
-  pub first : Option Fault
+  pub faults : List Fault
 
+-- the binds of a block, and the scope of what follows them
 pub record ReadBinds : Type 0 where
   pub binds : List Bound
   pub scope : Scope
-  pub first : Option Fault
+  pub faults : List Fault
 
--- An expression as its reading: its place, what the node above sees of it, its term and its faults in a scope, after the first
--- of those noted before; and the faults of its arguments alone, for the word `map`.
+-- An expression as its reading: its place, what the node above sees of it, its term and its faults in a scope; and the faults of
+-- its arguments alone, for the word `map`.
 pub record Reading : Type 0 where
   pub at : ℕ
   pub shape : Shape
-  pub read : Scope → Option Fault → ReadPart
-  pub arguments : Scope → Option Fault → Option Fault
+  pub read : Scope → ReadPart
+  pub arguments : Scope → List Fault
 
 -- a form has no place yet
 pub record Formed : Type 0 where
   pub shape : Shape
-  pub read : ℕ → Scope → Option Fault → ReadPart
-  pub arguments : Scope → Option Fault → Option Fault
+  pub read : ℕ → Scope → ReadPart
+  pub arguments : Scope → List Fault
 
 pub record BindReading : Type 0 where
   pub at : ℕ
   pub name : Bytes
-  pub read : Scope → Option Fault → ReadPart
+  pub read : Scope → ReadPart
 
 abbrev pub part_at : ℕ → Term → Part
 part_at at t = record { at = at; term = t }
@@ -70,13 +72,14 @@ part_at at t = record { at = at; term = t }
 abbrev pub no_part : ℕ → Part
 no_part at = part_at at (term.Number (pos 0))
 
-abbrev pub read_as : ℕ → Term → Option Fault → ReadPart
-read_as at t first = record { part = part_at at t; first = first }
+abbrev pub read_as : ℕ → Term → List Fault → ReadPart
+read_as at t faults = record { part = part_at at t; faults = faults }
 
 -- parts in order
-abbrev pub read_parts : List Reading → Scope → List Part → Option Fault → ReadParts
-read_parts [] s done first = record { parts = done; first = first }
-read_parts (e ∷ es) s done first = let r = e.read s first in read_parts es s (done ++ r.part ∷ []) r.first
+abbrev pub read_parts : List Reading → Scope → ReadParts
+read_parts [] s = record { parts = []; faults = [] }
+read_parts (e ∷ es) s =
+    let r = e.read s in let rest = read_parts es s in record { parts = r.part ∷ rest.parts; faults = r.faults ++ rest.faults }
 
 -- ---- names
 
@@ -84,19 +87,19 @@ abbrev pub global_term : Option ℕ → Term
 global_term (Some number) = term.Global number
 global_term None = term.Number (pos 0)
 
-abbrev pub value_named : ℕ → Bytes → Scope → Option NameId → Option Fault → ReadPart
-value_named at x s (Some n) first = read_as at (term.Local n) first
-value_named at x s None first =
-    let number = lookup (bytes_eq x) s.variables in read_as at (global_term number) (variable_noted at s.here number first)
+abbrev pub value_named : ℕ → Bytes → Scope → Option NameId → ReadPart
+value_named at x s (Some n) = read_as at (term.Local n) []
+value_named at x s None =
+    let number = lookup (bytes_eq x) s.variables in read_as at (global_term number) (variable_faults at s.here number)
 
 -- ---- calls of built-ins
 
 -- argument j of a repeat, warp or change of rate that is a literal, a name or a map of the wrong form
-abbrev pub argument_noted : Builtin → ℕ → Reading → Option Fault → Option Fault
-argument_noted (builtin.Repeat o) j e first = if nat_eq j 1 then noted_if (nat_eq (count_of_shape e.shape) 0) why.BadCount e.at first else first
-argument_noted builtin.Warp j e first = if nat_eq j 0 then noted_if (not (is_good_map e.shape)) why.BadMap e.at first else first
-argument_noted (builtin.Rate r) j e first = if nat_eq j 0 then noted_if (not (is_some (rate_of_shape e.shape))) why.BadRate e.at first else first
-argument_noted (builtin.Apply o) j e first = first
+abbrev pub argument_faults : Builtin → ℕ → Reading → List Fault
+argument_faults (builtin.Repeat o) j e = if nat_eq j 1 then fault_if (nat_eq (count_of_shape e.shape) 0) why.BadCount e.at else []
+argument_faults builtin.Warp j e = if nat_eq j 0 then fault_if (not (is_good_map e.shape)) why.BadMap e.at else []
+argument_faults (builtin.Rate r) j e = if nat_eq j 0 then fault_if (not (is_some (rate_of_shape e.shape))) why.BadRate e.at else []
+argument_faults (builtin.Apply o) j e = []
 
 abbrev pub is_repeat : Builtin → Bool
 is_repeat (builtin.Repeat o) = true
@@ -123,18 +126,24 @@ with_counter None at s = s
 abbrev pub argument_scope : Builtin → Option Bytes → ℕ → ℕ → Scope → Scope
 argument_scope b counter at j s = if nat_eq j 2 && is_repeat b then with_counter counter at s else s
 
--- argument j of a built-in whose first argument is this bare name, or none, at this place
-abbrev pub argument_read : Builtin → Option Bytes → ℕ → ℕ → Reading → Scope → Option Fault → ReadPart
-argument_read b counter at j e s first =
-    let now = argument_noted b j e first in
-    if is_counter b j e.shape then record { part = no_part e.at; first = now }
-    else (if is_warp_map b j e.shape then record { part = no_part e.at; first = e.arguments s now }
-    else e.read (argument_scope b counter at j s) now)
+-- argument j as an operand of a built-in whose first argument is this bare name, or none, at this place
+abbrev pub operand_read : Builtin → Option Bytes → ℕ → ℕ → Reading → Scope → ReadPart
+operand_read b counter at j e s =
+    if is_counter b j e.shape then record { part = no_part e.at; faults = [] }
+    else (if is_warp_map b j e.shape then record { part = no_part e.at; faults = e.arguments s }
+    else e.read (argument_scope b counter at j s))
 
-abbrev pub arguments_read : Builtin → Option Bytes → ℕ → ℕ → List Reading → Scope → List Part → Option Fault → ReadParts
-arguments_read b counter at j [] s done first = record { parts = done; first = first }
-arguments_read b counter at j (e ∷ es) s done first =
-    let r = argument_read b counter at j e s first in arguments_read b counter at (j + 1) es s (done ++ r.part ∷ []) r.first
+-- the same, with the faults of its form
+abbrev pub argument_read : Builtin → Option Bytes → ℕ → ℕ → Reading → Scope → ReadPart
+argument_read b counter at j e s =
+    let r = operand_read b counter at j e s in record { part = r.part; faults = argument_faults b j e ++ r.faults }
+
+-- arguments in order, from argument j on
+abbrev pub arguments_read : Builtin → Option Bytes → ℕ → ℕ → List Reading → Scope → ReadParts
+arguments_read b counter at j [] s = record { parts = []; faults = [] }
+arguments_read b counter at j (e ∷ es) s =
+    let r = argument_read b counter at j e s in let rest = arguments_read b counter at (j + 1) es s in
+    record { parts = r.part ∷ rest.parts; faults = r.faults ++ rest.faults }
 
 abbrev pub first_counter : List Reading → Option Bytes
 first_counter [] = None
@@ -182,15 +191,15 @@ is_vector (builtin.Apply op.Vector) = true
 is_vector _ = false
 
 -- a wrong number of arguments, and a vector of more than eight channels
-abbrev pub call_noted : ℕ → Builtin → ℕ → Option Fault → Option Fault
-call_noted at b n first =
-    noted_if (is_vector b && nat_lt 8 n) why.TooManyChannels at (noted_if (not (fits (arity_of b) n)) why.Arity at first)
+abbrev pub call_faults : ℕ → Builtin → ℕ → List Fault
+call_faults at b n = fault_if (not (fits (arity_of b) n)) why.Arity at ++ fault_if (is_vector b && nat_lt 8 n) why.TooManyChannels at
 
 -- a call with a wrong number of arguments is a fault, and stands for nothing
-abbrev pub builtin_called : ℕ → Builtin → List Reading → Scope → Option Fault → ReadPart
-builtin_called at b es s first =
-    let r = arguments_read b (first_counter es) (first_place es) 0 es s [] (call_noted at b (length es) first) in
-    read_as at (if fits (arity_of b) (length es) then builtin_term b es r.parts else term.Number (pos 0)) r.first
+abbrev pub builtin_called : ℕ → Builtin → List Reading → Scope → ReadPart
+builtin_called at b es s =
+    let r = arguments_read b (first_counter es) (first_place es) 0 es s in
+    read_as at (if fits (arity_of b) (length es) then builtin_term b es r.parts else term.Number (pos 0))
+    (call_faults at b (length es) ++ r.faults)
 
 -- ---- calls of functions
 
@@ -198,27 +207,31 @@ abbrev pub function_term : Option Called → List Part → Term
 function_term (Some f) parts = term.Call f.number parts
 function_term None parts = term.Number (pos 0)
 
-abbrev pub function_called : ℕ → Bytes → List Reading → Scope → Option Fault → ReadPart
-function_called at x es s first =
-    let f = lookup (bytes_eq x) s.functions in
-    let r = read_parts es s [] (function_noted at s.here (length es) f first) in read_as at (function_term f r.parts) r.first
+abbrev pub function_called : ℕ → Bytes → List Reading → Scope → ReadPart
+function_called at x es s =
+    let f = lookup (bytes_eq x) s.functions in let r = read_parts es s in
+    read_as at (function_term f r.parts) (function_faults at s.here (length es) f ++ r.faults)
 
-abbrev pub called : ℕ → Bytes → Option Builtin → List Reading → Scope → Option Fault → ReadPart
-called at x (Some b) es s first = builtin_called at b es s first
-called at x None es s first = function_called at x es s first
+abbrev pub called : ℕ → Bytes → Option Builtin → List Reading → Scope → ReadPart
+called at x (Some b) es s = builtin_called at b es s
+called at x None es s = function_called at x es s
 
 -- ---- blocks
 
 -- the binds of a block, each seen by those after it; `seen` are the names bound before in this block
-abbrev pub read_binds : List BindReading → List (Bytes × NameId) → Scope → List Bound → Option Fault → ReadBinds
-read_binds [] seen s done first = record { binds = done; scope = s; first = first }
-read_binds (b ∷ bs) seen s done first =
-    let r = b.read s (again_noted seen b.name b.at first) in
-    read_binds bs (seen_after seen b.name b.at) (with_local b.name b.at s) (done ++ record { name = name_at b.at; value = r.part } ∷ []) r.first
+abbrev pub read_binds : List BindReading → List (Bytes × NameId) → Scope → ReadBinds
+read_binds [] seen s = record { binds = []; scope = s; faults = [] }
+read_binds (b ∷ bs) seen s =
+    let r = b.read s in let rest = read_binds bs (seen_after seen b.name b.at) (with_local b.name b.at s) in
+    record {
+      binds = record { name = name_at b.at; value = r.part } ∷ rest.binds;
+      scope = rest.scope;
+      faults = again_faults seen b.name b.at ++ (r.faults ++ rest.faults);
+    }
 
-abbrev pub block_read : ℕ → List BindReading → Reading → Scope → Option Fault → ReadPart
-block_read at bs e s first =
-    let r = read_binds bs [] s [] first in let v = e.read r.scope r.first in read_as at (term.Block r.binds v.part) v.first
+abbrev pub block_read : ℕ → List BindReading → Reading → Scope → ReadPart
+block_read at bs e s =
+    let r = read_binds bs [] s in let v = e.read r.scope in read_as at (term.Block r.binds v.part) (r.faults ++ v.faults)
 
 -- ---- operators
 
@@ -247,18 +260,17 @@ is_division binary.Div = true
 is_division _ = false
 
 -- a division is by a literal, which is no operand
-abbrev pub binary_read : ℕ → BinOp → Reading → Reading → Scope → Option Fault → ReadPart
-binary_read at o a b s first =
+abbrev pub binary_read : ℕ → BinOp → Reading → Reading → Scope → ReadPart
+binary_read at o a b s =
+    let x = a.read s in
     if is_division o then
-    (let x = a.read s (noted_if (is_zero (value_of_shape b.shape)) why.ZeroDivisor at first) in
-    read_as at (term.Over x.part (value_of_shape b.shape)) x.first)
-    else
-    (let x = a.read s first in let y = b.read s x.first in read_as at (term.Apply (operator_of o) (x.part ∷ y.part ∷ [])) y.first)
+    read_as at (term.Over x.part (value_of_shape b.shape)) (fault_if (is_zero (value_of_shape b.shape)) why.ZeroDivisor at ++ x.faults)
+    else (let y = b.read s in read_as at (term.Apply (operator_of o) (x.part ∷ y.part ∷ [])) (x.faults ++ y.faults))
 
-abbrev pub choice_read : ℕ → Reading → Reading → Reading → Scope → Option Fault → ReadPart
-choice_read at c a b s first =
-    let x = c.read s first in let y = a.read s x.first in let z = b.read s y.first in
-    read_as at (term.Apply op.If (x.part ∷ y.part ∷ z.part ∷ [])) z.first
+abbrev pub choice_read : ℕ → Reading → Reading → Reading → Scope → ReadPart
+choice_read at c a b s =
+    let x = c.read s in let y = a.read s in let z = b.read s in
+    read_as at (term.Apply op.If (x.part ∷ y.part ∷ z.part ∷ [])) (x.faults ++ (y.faults ++ z.faults))
 
 -- ---- expressions
 
@@ -269,20 +281,20 @@ abbrev pub shape_of_call : Bytes → List Reading → Shape
 shape_of_call x es = if is_map x then Mapped (all_literals (map shape_of es)) else Other
 
 abbrev pub form_reading : Form-F Formed BindReading Reading → Formed
-form_reading (Form-F.Number v) = record { shape = Literal v; read = λ at s first. read_as at (term.Number v) first; arguments = λ s first. first }
-form_reading (Form-F.Name x) = record { shape = Bare x.bytes; read = λ at s first. value_named at x.bytes s (local_of x.bytes s) first; arguments = λ s first. first }
+form_reading (Form-F.Number v) = record { shape = Literal v; read = λ at s. read_as at (term.Number v) []; arguments = λ s. [] }
+form_reading (Form-F.Name x) = record { shape = Bare x.bytes; read = λ at s. value_named at x.bytes s (local_of x.bytes s); arguments = λ s. [] }
 form_reading (Form-F.Call x es) = record {
   shape = shape_of_call x.bytes es;
-  read = λ at s first. called at x.bytes (builtin_of x.bytes) es s first;
-  arguments = λ s first. (read_parts es s [] first).first;
+  read = λ at s. called at x.bytes (builtin_of x.bytes) es s;
+  arguments = λ s. (read_parts es s).faults;
 }
-form_reading (Form-F.If c a b) = record { shape = Other; read = λ at s first. choice_read at c a b s first; arguments = λ s first. first }
-form_reading (Form-F.Block bs e) = record { shape = Other; read = λ at s first. block_read at bs e s first; arguments = λ s first. first }
-form_reading (Form-F.Binary o a b) = record { shape = Other; read = λ at s first. binary_read at o a b s first; arguments = λ s first. first }
+form_reading (Form-F.If c a b) = record { shape = Other; read = λ at s. choice_read at c a b s; arguments = λ s. [] }
+form_reading (Form-F.Block bs e) = record { shape = Other; read = λ at s. block_read at bs e s; arguments = λ s. [] }
+form_reading (Form-F.Binary o a b) = record { shape = Other; read = λ at s. binary_read at o a b s; arguments = λ s. [] }
 form_reading (Form-F.Prefix o a) = record {
   shape = Other;
-  read = λ at s first. let x = a.read s first in read_as at (term.Apply (prefix_operator o) (x.part ∷ [])) x.first;
-  arguments = λ s first. first;
+  read = λ at s. let x = a.read s in read_as at (term.Apply (prefix_operator o) (x.part ∷ [])) x.faults;
+  arguments = λ s. [];
 }
 
 abbrev pub bind_reading : Bind-F Formed BindReading Reading → BindReading

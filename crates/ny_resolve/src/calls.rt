@@ -1,6 +1,10 @@
-ghost use Rattle.std.specs.Prelude.{◌≡◌, IfOk, map, nat_eq, ◌&&◌};
+ghost use Rattle.std.specs.Prelude.{◌≡◌, ◌≤◌, ◌+◌, length, IfOk, map, nat_eq, ◌&&◌, true};
+ghost use Rattle.ny_syntax.specs.Sizes.{total};
+ghost use Rattle.ny_resolve.specs.Sizes.{size_of_part, size_of_term};
+ghost use Rattle.ny_resolve.specs.Builtins.{arity_of, fits};
+ghost use Rattle.ny_resolve.specs.Faults.{earliest_after};
 ghost use Rattle.ny_resolve.specs.Literals.{bare_in};
-ghost use Rattle.ny_resolve.specs.Reading.{reading, is_vector, call_noted, argument_noted, is_counter, is_warp_map, is_repeat, is_warp, first_counter, first_place, first_rate, first_map, second_count, last_part, no_part, repeat_term, rate_or, builtin_term, function_term, global_term};
+ghost use Rattle.ny_resolve.specs.Reading.{reading, is_vector, call_faults, argument_faults, is_counter, is_warp_map, is_repeat, is_warp, first_counter, first_place, first_rate, first_map, second_count, last_part, no_part, repeat_term, rate_or, builtin_term, function_term, global_term};
 
 use crate::builtin::{Builtin, Operator, Order, takes};
 use crate::fault::{CheckWhy, Fault, noted_if};
@@ -14,8 +18,10 @@ use sqlite_items::{Boxed, Items};
 use std::alloc::{AllocError, Global};
 
 /// What stands in the place of an expression that is not read.
+#[tactic(auto, using(crate::proofs::PartSizes::term_sizes))]
 pub(crate) fn no_part(at: u32) -> Part
-    ensures { result ≡ no_part at }
+    ensures part { result ≡ no_part at }
+    ensures size { size_of_part result ≡ 1 }
 {
     Part {
         at,
@@ -45,13 +51,14 @@ fn is_vector(builtin: Builtin) -> bool
 }
 
 /// The first fault, where a built-in is called with so many arguments.
+#[tactic(auto, using(crate::proofs::Earliest::told))]
 pub(crate) fn call_noted(
     at: u32,
     builtin: Builtin,
     arguments: usize,
     first: Option<Fault>,
 ) -> Option<Fault>
-    ensures { result ≡ call_noted at builtin arguments first }
+    ensures { result ≡ earliest_after first (call_faults at builtin arguments) }
 {
     let wrong = !takes(builtin, arguments);
     let first = noted_if(wrong, CheckWhy::Arity, at, first);
@@ -85,6 +92,7 @@ pub(crate) fn sees_counter(builtin: Builtin, j: usize) -> bool
 }
 
 /// The first fault, where argument `j` is a literal of the wrong form.
+#[tactic(auto, using(crate::proofs::Earliest::told))]
 pub(crate) fn argument_noted(
     alloc: Global,
     builtin: Builtin,
@@ -92,7 +100,7 @@ pub(crate) fn argument_noted(
     e: &Expr,
     first: Option<Fault>,
 ) -> Result<Option<Fault>, AllocError>
-    ensures { IfOk result (λ f. f ≡ argument_noted builtin j (reading e.now) first) }
+    ensures { IfOk result (λ f. f ≡ earliest_after first (argument_faults builtin j (reading e.now))) }
 {
     match builtin {
         Builtin::Repeat(_) if j == 1 => Ok(noted_if(
@@ -160,9 +168,10 @@ fn second_count(parts: &[Expr]) -> u32
     if parts.len() < 2 { 0 } else { count(&parts[1]) }
 }
 
-#[tactic(auto, using(crate::proofs::Arguments::last_of_parts))]
+#[tactic(auto, using(crate::proofs::Arguments::last_of_parts, crate::proofs::PartSizes::last_small))]
 fn last_part(parts: Items<Part>) -> Part
-    ensures { result ≡ last_part (no_part 0) parts }
+    ensures last { result ≡ last_part (no_part 0) parts }
+    ensures small { 1 ≤ length parts → size_of_part result ≤ total (map size_of_part parts) }
 {
     let mut parts = parts;
     match parts.pop() {
@@ -171,6 +180,7 @@ fn last_part(parts: Items<Part>) -> Part
     }
 }
 
+#[tactic(auto, using(crate::proofs::PartSizes::term_sizes))]
 fn repeat_term(
     alloc: Global,
     order: Order,
@@ -179,7 +189,8 @@ fn repeat_term(
     count: u32,
     part: Part,
 ) -> Result<Term, AllocError>
-    ensures { IfOk result (λ t. t ≡ repeat_term order counter.now at count part) }
+    ensures term { IfOk result (λ t. t ≡ repeat_term order counter.now at count part) }
+    ensures size { IfOk result (λ t. size_of_term t ≡ 1 + size_of_part part) }
 {
     let part = Boxed::new(alloc, part)?;
     match counter {
@@ -198,13 +209,15 @@ fn rate_or(rate: Option<Rate>) -> Rate
 }
 
 /// The term of a call of a built-in.
+#[tactic(auto, using(crate::proofs::PartSizes::term_sizes))]
 pub(crate) fn builtin_term(
     alloc: Global,
     builtin: Builtin,
     arguments: &[Expr],
     parts: Items<Part>,
 ) -> Result<Term, AllocError>
-    ensures { IfOk result (λ t. t ≡ builtin_term builtin (map reading arguments.now) parts) }
+    ensures term { IfOk result (λ t. t ≡ builtin_term builtin (map reading arguments.now) parts) }
+    ensures small { IfOk result (λ t. fits (arity_of builtin) (length parts) ≡ true → size_of_term t ≤ 1 + total (map size_of_part parts)) }
 {
     match builtin {
         Builtin::Apply(operator) => Ok(Term::Apply(operator, parts)),
@@ -232,8 +245,10 @@ pub(crate) fn builtin_term(
 }
 
 /// The term of a call of a function.
+#[tactic(auto, using(crate::proofs::PartSizes::term_sizes))]
 pub(crate) fn function_term(called: Option<Called>, parts: Items<Part>) -> Term
-    ensures { result ≡ function_term called parts }
+    ensures term { result ≡ function_term called parts }
+    ensures small { size_of_term result ≤ 1 + total (map size_of_part parts) }
 {
     match called {
         Some(f) => Term::Call(f.number, parts),
@@ -242,8 +257,10 @@ pub(crate) fn function_term(called: Option<Called>, parts: Items<Part>) -> Term
 }
 
 /// The term of a global variable.
+#[tactic(auto, using(crate::proofs::PartSizes::term_sizes))]
 pub(crate) fn global_term(number: Option<u32>) -> Term
-    ensures { result ≡ global_term number }
+    ensures term { result ≡ global_term number }
+    ensures size { size_of_term result ≡ 1 }
 {
     match number {
         Some(number) => Term::Global(number),

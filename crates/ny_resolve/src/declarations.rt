@@ -1,11 +1,11 @@
-ghost use Rattle.std.specs.Prelude.{◌≡◌, ◌<◌, ◌+◌, ◌^◌, IfOk, OnOk, map, [], ◌∷◌, length, bytes_eq, ℕ};
-ghost use Rattle.ny_resolve.specs.declared.fault.Fault.{Fault as FaultOf};
+ghost use Rattle.std.specs.Prelude.{◌≡◌, ◌≤◌, ◌<◌, ◌+◌, ◌^◌, IfOk, OnOk, map, [], ◌∷◌, length, bytes_eq, ℕ};
 ghost use Rattle.ny_resolve.specs.declared.names.Names.{Names as NamesOf};
-ghost use Rattle.std.specs.Prelude.{Option as OptionOf};
 ghost use Rattle.indexmap.specs.IndexMap.{insert_entry};
-ghost use Rattle.ny_syntax.specs.Sizes.{tree_size};
+ghost use Rattle.ny_syntax.specs.Sizes.{total, declaration_size, play_size, tree_size};
+ghost use Rattle.ny_resolve.specs.Sizes.{declared_size, played_size, text_size};
+ghost use Rattle.ny_resolve.specs.Faults.{earliest, earliest_after};
 ghost use Rattle.ny_resolve.specs.Names.{scope_of};
-ghost use Rattle.ny_resolve.specs.Declarations.{declare, declared_after, nothing_declared, is_taken, function_is_taken, function_declared, variable_declared, read_params, declaration_read, declarations_read, scope_in, play_read, tree_read, declaring_of};
+ghost use Rattle.ny_resolve.specs.Declarations.{declare, declare_faults, declared_after, names_faults, nothing_declared, function_is_taken, param_names, with_params, params_faults, declaration_read, declarations_read, scope_in, play_read, tree_read, declaring_of};
 
 use crate::builtin::built_in;
 use crate::fault::{CheckWhy, Fault, noted};
@@ -35,13 +35,15 @@ fn function_is_taken<'t>(names: &Names<'t>, word: &Word<'t>, bytes: &[u8]) -> bo
 }
 
 /// Declares one more function or variable.
+#[tactic(auto, using(crate::proofs::Earliest::told))]
 fn declare<'t>(
     names: &mut Names<'t>,
     number: u32,
     declaration: &'t Decl,
     first: Option<Fault>,
 ) -> Result<Option<Fault>, AllocError>
-    ensures { IfOk result (λ f. declaring_of names.new f ≡ declare number declaration.now (declaring_of names.old first)) }
+    ensures names { OnOk result (declaring_of names.new ≡ declare number declaration.now (declaring_of names.old)) }
+    ensures first { IfOk result (λ f. f ≡ earliest_after first (declare_faults declaration.now (declaring_of names.old))) }
 {
     match declaration {
         Decl::Function {
@@ -76,9 +78,11 @@ struct AllNames<'t> {
     first: Option<Fault>,
 }
 
+#[tactic(auto, using(crate::proofs::Earliest::told))]
 fn all_names<'t>(alloc: Global, declarations: &'t [Decl]) -> Result<AllNames<'t>, AllocError>
     requires { length declarations.now < 2 ^ 32 }
-    ensures { IfOk result (λ r. declaring_of r.names r.first ≡ declared_after 0 declarations.now nothing_declared) }
+    ensures names { IfOk result (λ r. declaring_of r.names ≡ declared_after 0 declarations.now nothing_declared) }
+    ensures first { IfOk result (λ r. r.first ≡ earliest (names_faults 0 declarations.now nothing_declared)) }
 {
     let mut names = Names {
         functions: IndexMap::new(alloc),
@@ -92,7 +96,7 @@ fn all_names<'t>(alloc: Global, declarations: &'t [Decl]) -> Result<AllNames<'t>
     Ok(AllNames { names, first })
 }
 
-/// Parameters that were read, and the first of the faults noted so far.
+/// Parameters that were read, and the first of the faults so far.
 #[derive(Debug, Drop)]
 struct ReadList {
     params: Items<NameId>,
@@ -100,13 +104,16 @@ struct ReadList {
 }
 
 /// Reads the parameters of a function, and binds them.
+#[tactic(auto, using(crate::proofs::Earliest::told))]
 fn params_read<'t>(
     alloc: Global,
     locals: &mut Scope<Word<'t>, NameId>,
     params: &'t [Param],
     first: Option<Fault>,
 ) -> Result<ReadList, AllocError>
-    ensures { (names : NamesOf) → (here : ℕ) → IfOk result (λ r. record { params = r.params; scope = scope_of names here locals.new; first = r.first } ≡ read_params params.now [] (scope_of names here locals.old) [] first) }
+    ensures params { IfOk result (λ r. r.params ≡ param_names params.now) }
+    ensures bound { (names : NamesOf) → (here : ℕ) → OnOk result (scope_of names here locals.new ≡ with_params params.now (scope_of names here locals.old)) }
+    ensures first { IfOk result (λ r. r.first ≡ earliest_after first (params_faults params.now [])) }
 {
     let mut seen = IndexMap::new(alloc);
     let mut done = Items::new(alloc);
@@ -129,6 +136,7 @@ struct ReadDeclaration {
     first: Option<Fault>,
 }
 
+#[tactic(auto, using(crate::proofs::Earliest::told))]
 fn declaration_read<'t>(
     alloc: Global,
     names: &Names<'t>,
@@ -136,7 +144,9 @@ fn declaration_read<'t>(
     declaration: &'t Decl,
     first: Option<Fault>,
 ) -> Result<ReadDeclaration, AllocError>
-    ensures { IfOk result (λ r. record { declared = r.declared; first = r.first } ≡ declaration_read declaration.now (scope_of names.now here []) first) }
+    ensures declared { IfOk result (λ r. r.declared ≡ (declaration_read declaration.now (scope_of names.now here [])).declared) }
+    ensures first { IfOk result (λ r. r.first ≡ earliest_after first (declaration_read declaration.now (scope_of names.now here [])).faults) }
+    ensures small { IfOk result (λ r. declared_size r.declared ≤ declaration_size declaration.now) }
 {
     let mut locals = Scope::new(alloc);
     match declaration {
@@ -173,6 +183,7 @@ struct ReadDeclared {
     first: Option<Fault>,
 }
 
+#[tactic(auto, using(crate::proofs::Earliest::told))]
 fn declarations_read<'t>(
     alloc: Global,
     names: &Names<'t>,
@@ -180,7 +191,10 @@ fn declarations_read<'t>(
     first: Option<Fault>,
 ) -> Result<ReadDeclared, AllocError>
     requires { length declarations.now < 2 ^ 32 }
-    ensures { (f : OptionOf FaultOf) → IfOk result (λ r. record { declared = r.declared; first = r.first } ≡ declarations_read (declaring_of names.now f) 0 declarations.now [] first) }
+    ensures declared { IfOk result (λ r. r.declared ≡ (declarations_read (declaring_of names.now) 0 declarations.now).declared) }
+    ensures first { IfOk result (λ r. r.first ≡ earliest_after first (declarations_read (declaring_of names.now) 0 declarations.now).faults) }
+    ensures small { IfOk result (λ r. total (map declared_size r.declared) ≤ total (map declaration_size declarations.now)) }
+    ensures count { IfOk result (λ r. length r.declared ≡ length declarations.now) }
 {
     let mut done = Items::new(alloc);
     let mut first = first;
@@ -196,6 +210,7 @@ fn declarations_read<'t>(
     })
 }
 
+#[tactic(auto, using(crate::proofs::Earliest::told))]
 fn play_read<'t>(
     alloc: Global,
     names: &Names<'t>,
@@ -204,7 +219,10 @@ fn play_read<'t>(
     play: &'t Option<Expr>,
     read: ReadDeclared,
 ) -> Result<ReadTree, AllocError>
-    ensures { (f : OptionOf FaultOf) → IfOk result (λ r. record { declared = r.declared; play = r.play; first = r.first } ≡ play_read (declaring_of names.now f) here end play.now (record { declared = read.declared; first = read.first })) }
+    ensures declared { IfOk result (λ r. r.declared ≡ read.declared) }
+    ensures play { IfOk result (λ r. r.play ≡ (play_read (declaring_of names.now) here end play.now).play) }
+    ensures first { IfOk result (λ r. r.first ≡ earliest_after read.first (play_read (declaring_of names.now) here end play.now).faults) }
+    ensures small { IfOk result (λ r. played_size r.play ≤ play_size play.now) }
 {
     let ReadDeclared { declared, first } = read;
     match play {
@@ -228,10 +246,15 @@ fn play_read<'t>(
 /// The terms of a text, and the first of the faults that it shows before any kind is known.
 ///
 /// Names and declarations have 32-bit numbers, so the tree has fewer than 2^32 expressions and names, as each
-/// tree of a text has (`ny_syntax::size_laws`).
+/// tree of a text has (`ny_syntax::size_laws`). What is read is no larger than the tree.
+#[tactic(auto, using(crate::proofs::Earliest::told))]
 pub fn read_tree(alloc: Global, tree: &Tree) -> Result<ReadTree, AllocError>
     requires { tree_size tree.now < 2 ^ 32 }
-    ensures { IfOk result (λ r. record { declared = r.declared; play = r.play; first = r.first } ≡ tree_read tree.now) }
+    ensures declared { IfOk result (λ r. r.declared ≡ (tree_read tree.now).declared) }
+    ensures play { IfOk result (λ r. r.play ≡ (tree_read tree.now).play) }
+    ensures first { IfOk result (λ r. r.first ≡ earliest (tree_read tree.now).faults) }
+    ensures small { IfOk result (λ r. text_size r.declared r.play ≤ tree_size tree.now) }
+    ensures numbered { IfOk result (λ r. length r.declared < 2 ^ 32) }
 {
     size_laws();
     let declarations = tree.decls.as_slice();

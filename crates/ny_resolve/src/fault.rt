@@ -1,5 +1,5 @@
-ghost use Rattle.std.specs.Prelude.{◌≡◌, Some};
-ghost use Rattle.ny_resolve.specs.Faults.{rank, comes_before, sooner, noted, noted_if};
+ghost use Rattle.std.specs.Prelude.{◌≡◌, [], ◌∷◌};
+ghost use Rattle.ny_resolve.specs.Faults.{rank, comes_before, earliest_after, one_fault, fault_if};
 
 /// Why a text is not accepted, in the order in which faults are reported (`docs/LANGUAGE.md`, "Faults").
 #[derive(Clone, Copy, Debug, PartialEq, Eq)]
@@ -68,9 +68,9 @@ fn comes_before(f: Fault, g: Fault) -> bool
 }
 
 /// The fault that is reported sooner: that of the earlier kind, and of one kind the one at the lesser place.
-#[tactic(auto, unfolding(crate::specs::Faults::sooner))]
-pub fn sooner(first: Option<Fault>, fault: Fault) -> Option<Fault>
-    ensures { result ≡ sooner first fault }
+#[tactic(auto, unfolding(crate::specs::Faults::earliest_after, crate::specs::Faults::earliest))]
+fn sooner(first: Option<Fault>, fault: Fault) -> Option<Fault>
+    ensures { result ≡ earliest_after first (fault ∷ []) }
 {
     match first {
         None => Some(fault),
@@ -86,14 +86,15 @@ pub fn sooner(first: Option<Fault>, fault: Fault) -> Option<Fault>
 
 /// The first fault where one more is noted.
 pub fn noted(why: CheckWhy, at: u32, first: Option<Fault>) -> Option<Fault>
-    ensures { result ≡ noted why at first }
+    ensures { result ≡ earliest_after first (one_fault why at) }
 {
     sooner(first, Fault { at, why })
 }
 
 /// The first fault where one more is noted if this holds.
+#[tactic(auto, using(crate::proofs::Earliest::told))]
 pub fn noted_if(holds: bool, why: CheckWhy, at: u32, first: Option<Fault>) -> Option<Fault>
-    ensures { result ≡ noted_if holds why at first }
+    ensures { result ≡ earliest_after first (fault_if holds why at) }
 {
     if holds { noted(why, at, first) } else { first }
 }

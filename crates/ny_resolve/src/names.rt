@@ -1,6 +1,7 @@
 ghost use Rattle.std.specs.Prelude.{◌≡◌, bytes_eq};
 ghost use Rattle.std.specs.Map.{lookup};
-ghost use Rattle.ny_resolve.specs.Names.{variable_noted, function_noted};
+ghost use Rattle.ny_resolve.specs.Faults.{earliest_after};
+ghost use Rattle.ny_resolve.specs.Names.{variable_faults, function_faults};
 
 use crate::fault::{CheckWhy, Fault, noted, noted_if};
 use crate::word::Word;
@@ -44,7 +45,7 @@ pub(crate) fn variable_noted(
     number: Option<u32>,
     first: Option<Fault>,
 ) -> Option<Fault>
-    ensures { result ≡ variable_noted at here number first }
+    ensures { result ≡ earliest_after first (variable_faults at here number) }
 {
     match number {
         None => noted(CheckWhy::UnknownName, at, first),
@@ -53,6 +54,7 @@ pub(crate) fn variable_noted(
 }
 
 /// The first fault, where a function is called here with so many arguments.
+#[tactic(auto, using(crate::proofs::Earliest::told))]
 pub(crate) fn function_noted(
     at: u32,
     here: u32,
@@ -60,7 +62,7 @@ pub(crate) fn function_noted(
     called: Option<Called>,
     first: Option<Fault>,
 ) -> Option<Fault>
-    ensures { result ≡ function_noted at here arguments called first }
+    ensures { result ≡ earliest_after first (function_faults at here arguments called) }
 {
     match called {
         None => noted(CheckWhy::UnknownName, at, first),

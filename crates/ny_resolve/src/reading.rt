@@ -1,9 +1,12 @@
-ghost use Rattle.std.specs.Prelude.{◌≡◌, ◌+◌, IfOk, OnOk, map, [], ◌∷◌, length, take, not, ℕ, pos, if◌then◌else◌};
+ghost use Rattle.std.specs.Prelude.{◌≡◌, ◌≤◌, ◌+◌, IfOk, OnOk, map, [], ◌∷◌, length, take, not, ℕ, pos, if◌then◌else◌};
+ghost use Rattle.ny_syntax.specs.Sizes.{total, size_of, size_of_bind};
+ghost use Rattle.ny_resolve.specs.Sizes.{size_of_part, size_of_term, size_of_bound};
 ghost use Rattle.ny_resolve.specs.declared.term.Term.TheVariants as term;
 ghost use Rattle.ny_resolve.specs.declared.names.Names.{Names as NamesOf};
+ghost use Rattle.ny_resolve.specs.Faults.{earliest_after};
 ghost use Rattle.ny_resolve.specs.Builtins.{builtin_of, arity_of, fits};
-ghost use Rattle.ny_resolve.specs.Names.{scope_of, local_of, with_local, again_noted, seen_after};
-ghost use Rattle.ny_resolve.specs.Reading.{reading, reading_of_bind, ReadPart, ReadParts, ReadBinds, value_named, with_counter, argument_scope, argument_read, arguments_read, first_counter, first_place, builtin_term, read_as, builtin_called, function_called, called, read_parts, read_binds, operator_of, prefix_operator, is_division};
+ghost use Rattle.ny_resolve.specs.Names.{scope_of, local_of, with_local, again_faults, seen_after};
+ghost use Rattle.ny_resolve.specs.Reading.{reading, reading_of_bind, part_at, value_named, with_counter, argument_scope, argument_read, arguments_read, first_counter, first_place, builtin_term, builtin_called, function_called, called, read_parts, read_binds, operator_of, prefix_operator, is_division};
 
 use crate::builtin::{Builtin, Operator, Relation, built_in, takes};
 use crate::calls::{
@@ -21,21 +24,21 @@ use ny_syntax::{BinOp, Bind, Expr, Form, Name, PreOp};
 use sqlite_items::{Boxed, Items};
 use std::alloc::{AllocError, Global};
 
-/// What was read, and the first of the faults noted so far.
+/// What was read, and the first of the faults so far.
 #[derive(Debug, Drop)]
 pub struct Read {
     pub part: Part,
     pub first: Option<Fault>,
 }
 
-/// Parts that were read, and the first of the faults noted so far.
+/// Parts that were read, and the first of the faults so far.
 #[derive(Debug, Drop)]
 struct ReadMany {
     parts: Items<Part>,
     first: Option<Fault>,
 }
 
-/// Binds that were read, and the first of the faults noted so far.
+/// Binds that were read, and the first of the faults so far.
 #[derive(Debug, Drop)]
 struct ReadBlock {
     binds: Items<Bound>,
@@ -95,6 +98,7 @@ fn bind_counter<'t>(
 }
 
 /// A value name.
+#[tactic(auto, using(crate::proofs::Earliest::told, crate::proofs::PartSizes::term_sizes))]
 fn name_read<'t>(
     names: &Names<'t>,
     here: u32,
@@ -103,7 +107,9 @@ fn name_read<'t>(
     x: &'t Name,
     first: Option<Fault>,
 ) -> Read
-    ensures { record { part = result.part; first = result.first } ≡ value_named at x.now.bytes (scope_of names.now here locals.now) (local_of x.now.bytes (scope_of names.now here locals.now)) first }
+    ensures part { result.part ≡ (value_named at x.now.bytes (scope_of names.now here locals.now) (local_of x.now.bytes (scope_of names.now here locals.now))).part }
+    ensures first { result.first ≡ earliest_after first (value_named at x.now.bytes (scope_of names.now here locals.now) (local_of x.now.bytes (scope_of names.now here locals.now))).faults }
+    ensures size { size_of_part result.part ≡ 1 }
 {
     match locals.find(&Word::of(x)) {
         Some(name) => Read {
@@ -126,8 +132,9 @@ fn name_read<'t>(
     }
 }
 
-/// The term that an expression is, and the first of the faults noted before and in it.
+/// The term that an expression is, and the first of the faults before and in it.
 #[cycle(read)]
+#[tactic(auto, using(crate::proofs::Earliest::told, crate::proofs::PartSizes::term_sizes))]
 pub(crate) fn read_expr<'t>(
     alloc: Global,
     names: &Names<'t>,
@@ -136,8 +143,10 @@ pub(crate) fn read_expr<'t>(
     e: &'t Expr,
     first: Option<Fault>,
 ) -> Result<Read, AllocError>
-    ensures read { IfOk result (λ r. record { part = r.part; first = r.first } ≡ (reading e.now).read (scope_of names.now here locals.old) first) }
+    ensures part { IfOk result (λ r. r.part ≡ ((reading e.now).read (scope_of names.now here locals.old)).part) }
+    ensures first { IfOk result (λ r. r.first ≡ earliest_after first ((reading e.now).read (scope_of names.now here locals.old)).faults) }
     ensures same { OnOk result (locals.new ≡ locals.old) }
+    ensures small { IfOk result (λ r. size_of_part r.part ≤ size_of e.now) }
 {
     match &e.form {
         Form::Number(v) => Ok(Read {
@@ -229,8 +238,11 @@ fn three(alloc: Global, a: Part, b: Part, c: Part) -> Result<Items<Part>, AllocE
     Ok(parts)
 }
 
+#[tactic(auto, using(crate::proofs::PartSizes::term_sizes))]
 fn applied(at: u32, operator: Operator, parts: Items<Part>, first: Option<Fault>) -> Read
-    ensures { record { part = result.part; first = result.first } ≡ read_as at (term.Apply operator parts) first }
+    ensures part { result.part ≡ part_at at (term.Apply operator parts) }
+    ensures first { result.first ≡ first }
+    ensures size { size_of_part result.part ≡ 1 + total (map size_of_part parts) }
 {
     Read {
         part: Part {
@@ -242,6 +254,7 @@ fn applied(at: u32, operator: Operator, parts: Items<Part>, first: Option<Fault>
 }
 
 #[cycle(read)]
+#[tactic(auto, using(crate::proofs::Earliest::told, crate::proofs::PartSizes::term_sizes))]
 fn read_call<'t>(
     alloc: Global,
     names: &Names<'t>,
@@ -252,8 +265,10 @@ fn read_call<'t>(
     parts: &'t [Expr],
     first: Option<Fault>,
 ) -> Result<Read, AllocError>
-    ensures read { IfOk result (λ r. record { part = r.part; first = r.first } ≡ called at x.now.bytes (builtin_of x.now.bytes) (map reading parts.now) (scope_of names.now here locals.old) first) }
+    ensures part { IfOk result (λ r. r.part ≡ (called at x.now.bytes (builtin_of x.now.bytes) (map reading parts.now) (scope_of names.now here locals.old)).part) }
+    ensures first { IfOk result (λ r. r.first ≡ earliest_after first (called at x.now.bytes (builtin_of x.now.bytes) (map reading parts.now) (scope_of names.now here locals.old)).faults) }
     ensures same { OnOk result (locals.new ≡ locals.old) }
+    ensures small { IfOk result (λ r. size_of_part r.part ≤ 1 + total (map size_of parts.now)) }
 {
     match built_in(x.bytes.as_slice()) {
         Some(builtin) => {
@@ -282,6 +297,7 @@ fn read_call<'t>(
 }
 
 /// The term of a call with a right number of arguments.
+#[tactic(auto, using(crate::proofs::PartSizes::term_sizes))]
 fn term_if(
     alloc: Global,
     good: bool,
@@ -289,7 +305,9 @@ fn term_if(
     arguments: &[Expr],
     parts: Items<Part>,
 ) -> Result<Term, AllocError>
-    ensures { IfOk result (λ t. t ≡ (if good then builtin_term builtin (map reading arguments.now) parts else term.Number (pos 0))) }
+    requires { good ≡ fits (arity_of builtin) (length parts) }
+    ensures term { IfOk result (λ t. t ≡ (if good then builtin_term builtin (map reading arguments.now) parts else term.Number (pos 0))) }
+    ensures small { IfOk result (λ t. size_of_term t ≤ 1 + total (map size_of_part parts)) }
 {
     if good {
         builtin_term(alloc, builtin, arguments, parts)
@@ -299,6 +317,7 @@ fn term_if(
 }
 
 #[cycle(read)]
+#[tactic(auto, using(crate::proofs::Earliest::told))]
 fn read_each<'t>(
     alloc: Global,
     names: &Names<'t>,
@@ -307,8 +326,10 @@ fn read_each<'t>(
     parts: &'t [Expr],
     first: Option<Fault>,
 ) -> Result<ReadMany, AllocError>
-    ensures read { IfOk result (λ r. record { parts = r.parts; first = r.first } ≡ read_parts (map reading parts.now) (scope_of names.now here locals.old) [] first) }
+    ensures parts { IfOk result (λ r. r.parts ≡ (read_parts (map reading parts.now) (scope_of names.now here locals.old)).parts) }
+    ensures first { IfOk result (λ r. r.first ≡ earliest_after first (read_parts (map reading parts.now) (scope_of names.now here locals.old)).faults) }
     ensures same { OnOk result (locals.new ≡ locals.old) }
+    ensures small { IfOk result (λ r. total (map size_of_part r.parts) ≤ total (map size_of parts.now)) }
 {
     let mut done = Items::new(alloc);
     let mut first = first;
@@ -322,6 +343,7 @@ fn read_each<'t>(
 
 /// The faults of the arguments of a call.
 #[cycle(read)]
+#[tactic(auto, using(crate::proofs::Earliest::told))]
 fn read_inside<'t>(
     alloc: Global,
     names: &Names<'t>,
@@ -330,7 +352,7 @@ fn read_inside<'t>(
     e: &'t Expr,
     first: Option<Fault>,
 ) -> Result<Option<Fault>, AllocError>
-    ensures read { IfOk result (λ f. f ≡ (reading e.now).arguments (scope_of names.now here locals.old) first) }
+    ensures first { IfOk result (λ f. f ≡ earliest_after first ((reading e.now).arguments (scope_of names.now here locals.old))) }
     ensures same { OnOk result (locals.new ≡ locals.old) }
 {
     match &e.form {
@@ -343,6 +365,7 @@ fn read_inside<'t>(
 }
 
 #[cycle(read)]
+#[tactic(auto, using(crate::proofs::Earliest::told))]
 fn read_argument<'t>(
     alloc: Global,
     names: &Names<'t>,
@@ -355,8 +378,10 @@ fn read_argument<'t>(
     e: &'t Expr,
     first: Option<Fault>,
 ) -> Result<Read, AllocError>
-    ensures read { IfOk result (λ r. record { part = r.part; first = r.first } ≡ argument_read builtin counter.now at j (reading e.now) (scope_of names.now here locals.old) first) }
+    ensures part { IfOk result (λ r. r.part ≡ (argument_read builtin counter.now at j (reading e.now) (scope_of names.now here locals.old)).part) }
+    ensures first { IfOk result (λ r. r.first ≡ earliest_after first (argument_read builtin counter.now at j (reading e.now) (scope_of names.now here locals.old)).faults) }
     ensures same { OnOk result (locals.new ≡ locals.old) }
+    ensures small { IfOk result (λ r. size_of_part r.part ≤ size_of e.now) }
 {
     let first = argument_noted(alloc, builtin, j, e, first)?;
     if is_counter(builtin, j, e) {
@@ -384,6 +409,7 @@ fn read_argument<'t>(
 }
 
 #[cycle(read)]
+#[tactic(auto, using(crate::proofs::Earliest::told))]
 fn read_arguments<'t>(
     alloc: Global,
     names: &Names<'t>,
@@ -393,8 +419,11 @@ fn read_arguments<'t>(
     parts: &'t [Expr],
     first: Option<Fault>,
 ) -> Result<ReadMany, AllocError>
-    ensures read { IfOk result (λ r. record { parts = r.parts; first = r.first } ≡ arguments_read builtin (first_counter (map reading parts.now)) (first_place (map reading parts.now)) 0 (map reading parts.now) (scope_of names.now here locals.old) [] first) }
+    ensures parts { IfOk result (λ r. r.parts ≡ (arguments_read builtin (first_counter (map reading parts.now)) (first_place (map reading parts.now)) 0 (map reading parts.now) (scope_of names.now here locals.old)).parts) }
+    ensures first { IfOk result (λ r. r.first ≡ earliest_after first (arguments_read builtin (first_counter (map reading parts.now)) (first_place (map reading parts.now)) 0 (map reading parts.now) (scope_of names.now here locals.old)).faults) }
     ensures same { OnOk result (locals.new ≡ locals.old) }
+    ensures small { IfOk result (λ r. total (map size_of_part r.parts) ≤ total (map size_of parts.now)) }
+    ensures count { IfOk result (λ r. length r.parts ≡ length parts.now) }
 {
     let counter = first_counter(parts);
     let at = first_place(parts);
@@ -418,7 +447,7 @@ pub(crate) fn note_again<'t>(
     first: Option<Fault>,
 ) -> Result<Option<Fault>, AllocError>
     ensures seen { OnOk result (seen.new.entries ≡ seen_after seen.old.entries word.entry at) }
-    ensures first { IfOk result (λ f. f ≡ again_noted seen.old.entries word.entry at first) }
+    ensures first { IfOk result (λ f. f ≡ earliest_after first (again_faults seen.old.entries word.entry at)) }
 {
     let before = seen.insert(word, NameId(at))?;
     Ok(noted_if(before.is_some(), CheckWhy::Redefined, at, first))
@@ -426,7 +455,7 @@ pub(crate) fn note_again<'t>(
 
 /// Reads the binds of a block, and leaves their names bound.
 #[cycle(read)]
-#[tactic(auto, using(ny_scope::proofs::Kept::kept_more))]
+#[tactic(auto, using(crate::proofs::Earliest::told, ny_scope::proofs::Kept::kept_more))]
 fn read_each_bind<'t>(
     alloc: Global,
     names: &Names<'t>,
@@ -435,8 +464,11 @@ fn read_each_bind<'t>(
     binds: &'t [Bind],
     first: Option<Fault>,
 ) -> Result<ReadBlock, AllocError>
-    ensures read { IfOk result (λ r. record { binds = r.binds; scope = scope_of names.now here locals.new; first = r.first } ≡ read_binds (map reading_of_bind binds.now) [] (scope_of names.now here locals.old) [] first) }
+    ensures binds { IfOk result (λ r. r.binds ≡ (read_binds (map reading_of_bind binds.now) [] (scope_of names.now here locals.old)).binds) }
+    ensures bound { OnOk result (scope_of names.now here locals.new ≡ (read_binds (map reading_of_bind binds.now) [] (scope_of names.now here locals.old)).scope) }
+    ensures first { IfOk result (λ r. r.first ≡ earliest_after first (read_binds (map reading_of_bind binds.now) [] (scope_of names.now here locals.old)).faults) }
     ensures kept { OnOk result (take (length locals.old) locals.new ≡ locals.old) }
+    ensures small { IfOk result (λ r. total (map size_of_bound r.binds) ≤ total (map size_of_bind binds.now)) }
 {
     let mut seen = IndexMap::new(alloc);
     let mut done = Items::new(alloc);

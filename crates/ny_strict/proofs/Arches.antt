@@ -1,8 +1,8 @@
 -- Quotients of parabolas are within 0 and a million.
-use Rattle.std.proofs.Common.{◌≡◌, inl, inr, ℕ, ◌+◌, ◌-◌, ◌*◌, ◌/◌, ◌^◌, ◌<◌, ◌≤◌, arith, subst}
+use Rattle.std.proofs.Common.{◌≡◌, inl, inr, ℕ, ◌+◌, ◌-◌, ◌*◌, ◌/◌, ◌<◌, ◌≤◌, arith, subst}
 use Rattle.std.proofs.lemmas.Bool.{cases_lt}
-use Rattle.std.proofs.Math.Nat.{div-le_of_le-mul, pow-le-pow_right}
-pub use Rattle.std.proofs.lemmas.Nat.{mul-le}
+use Rattle.std.proofs.Math.Nat.{div-le_of_le-mul}
+use Rattle.std.proofs.lemmas.Nat.{mul-le}
 
 apart : (k d : ℕ) → 4 * (k * (k + d)) ≤ (k + k + d) * (k + k + d)
 apart k d = omega arith
@@ -24,11 +24,6 @@ square_small half h = omega (arith, mul-le half half 2048 2048 h h)
 
 pub square_some : (half : ℕ) → 0 < half → 0 < half * half
 square_some half h = omega (arith, mul-le 1 1 half half h h)
-
-pub octaves_within : (count : ℕ) → count ≤ 5 → 2 ^ count ≤ 32
-octaves_within count h = pow-le-pow_right (omega arith) h
-
-pub ruleset product_within = (mul-le)
 
 pub ruleset products = (parts_of_square, square_small, square_some)
 

@@ -6,7 +6,8 @@ ghost use Rattle.ny_num.specs.Leaves.{leaf, ramp_value, increment, wave_value, l
 ghost use Rattle.ny_strict.specs.Tables.{IsTable};
 
 use crate::sound::Sound;
-use crate::waves::{increment, key_hz, key_of, louder, wave};
+use crate::waves::{louder, wave};
+use ny_num::pitch::{increment, key_hz, key_of, seed_of};
 use ny_num::{Fix, Sample, Timing};
 use std::alloc::{AllocError, Global};
 
@@ -128,14 +129,6 @@ pub fn lfo(alloc: Global, timing: &Timing, hz: Fix) -> Result<Sound, AllocError>
 {
     let samples = plain_wave_samples(alloc, timing.len, 256, increment(hz, timing.rate))?;
     Ok(Sound::new(timing, samples))
-}
-
-/// Where noise of a number begins.
-#[tactic(auto, unfolding(ny_num::specs::Leaves::seed_of))]
-fn seed_of(n: Fix) -> u32
-    ensures { result ≡ seed_of n }
-{
-    n.whole().rem_euclid(4_294_967_296) as u32
 }
 
 /// What follows a state of the noise.

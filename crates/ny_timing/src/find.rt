@@ -23,10 +23,9 @@ use crate::leaves::{cue_timing, envelope_end, plain_timing, rest_timing, sustain
 use crate::names::Names;
 use crate::rules::{mix_timing, placed_timing, resampled_timing};
 use ny_check::operations::{holds, not, number_in, quotient};
-use ny_check::{Binds, ExprId, FunctionId, NameId, Node, Program, Scalar, Value};
+use ny_check::{ExprId, FunctionId, NameId, Node, Program, Scalar, Value};
 use ny_num::{Fix, Rate, Ticks, Timing, index};
 use ny_warp::Env;
-use sqlite_items::Items;
 use std::alloc::{AllocError, Global};
 
 /// What an expression is, and when it is heard, in an environment and under what its names stand for.
@@ -90,10 +89,7 @@ fn global(alloc: Global, p: &Program, value: ExprId, rate: Rate) -> Result<Found
     ensures timing { IfOk result (λ f. time_of_found rate f ≡ no_time rate) }
     ensures bounds { IfOk result (λ f. IsTiming (time_of_found rate f)) }
 {
-    let none: Binds<Timing> = Binds {
-        names: Items::new(alloc),
-    };
-    let scalar = p.scalar(alloc, value, &none)?;
+    let scalar = p.global(alloc, value)?;
     Ok(found_of(scalar, rate))
 }
 

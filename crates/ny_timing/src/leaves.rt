@@ -11,7 +11,7 @@ use ny_warp::Env;
 
 /// From local time 0 for `d` seconds times the sustain; the stop is that of `d` seconds.
 #[tactic(auto, unfolding(ny_check::specs::Behaviours::sustained_timing, ny_num::specs::Numbers::sat))]
-pub(crate) fn sustained_timing(rate: Rate, env: &Env, d: Fix) -> Timing
+pub fn sustained_timing(rate: Rate, env: &Env, d: Fix) -> Timing
     ensures value { result ≡ sustained_timing rate env.now d }
     ensures bounds { IsTiming result }
 {
@@ -22,7 +22,7 @@ pub(crate) fn sustained_timing(rate: Rate, env: &Env, d: Fix) -> Timing
 
 /// From local time 0 for `d` seconds, whatever the sustain.
 #[tactic(auto, unfolding(ny_check::specs::Behaviours::plain_timing, ny_num::specs::Numbers::sat))]
-pub(crate) fn plain_timing(rate: Rate, env: &Env, d: Fix) -> Timing
+pub fn plain_timing(rate: Rate, env: &Env, d: Fix) -> Timing
     ensures value { result ≡ plain_timing rate env.now d }
     ensures bounds { IsTiming result }
 {
@@ -32,7 +32,7 @@ pub(crate) fn plain_timing(rate: Rate, env: &Env, d: Fix) -> Timing
 
 /// Nothing from local time 0 on, with the stop of `d` seconds.
 #[tactic(auto, unfolding(ny_check::specs::Behaviours::rest_timing, ny_num::specs::Numbers::sat))]
-pub(crate) fn rest_timing(env: &Env, d: Fix) -> Timing
+pub fn rest_timing(env: &Env, d: Fix) -> Timing
     ensures value { result ≡ rest_timing env.now d }
     ensures bounds { IsTiming result }
 {

@@ -1,5 +1,3 @@
-pub mod Terms
-pub mod Files
 pub mod Numbers
 pub mod Rates
 pub mod OptionWords
@@ -8,6 +6,7 @@ pub mod FaultLines
 pub mod Outcomes
 pub mod Stages
 pub mod RoundLemmas
+pub mod MonoLemmas
 pub mod FileLemmas
 pub mod OneOutcome
 pub mod Complete

@@ -14,15 +14,15 @@ use Rattle.ny_resolve.specs.declared.fault.Fault.{Fault}
 use Rattle.ny_check.specs.Acceptance.{fault_of}
 use Rattle.ny_top.specs.declared.reading.Refusal.{Refusal}
 use Rattle.ny_top.specs.declared.reading.Refusal.TheVariants.{Lex, Parse, Check}
-use Rattle.ny_pull.specs.declared.term.Term.{Term}
+use Rattle.ny_check.specs.Code.{Code}
 use Rattle.ny_pull.specs.declared.fault.PullFault.{PullFault}
 use Rattle.ny_pull.specs.declared.fault.PullFault.TheVariants.{PoolFull}
 use Rattle.ny_pull.specs.Engine.{EngineState}
 use Rattle.ny_top.specs.Words.{Render, Task, Command, render, check}
-use Rattle.ny_top.specs.Channel.{tree_terms}
+use Rattle.ny_top.specs.Channel.{playable}
 use Rattle.ny_top.specs.Playing.{HasPlayed, IsFullAfter}
 use Rattle.ny_top.specs.Reading.{IsTreeOf, IsAccepted, IsRefusal, refusal_text}
-use Rattle.ny_top.specs.Outcome.{Outcome, refused, full, HasPlayOutcome, HasTermsOutcome, HasTreeOutcome, HasReadOutcome, HasTextOutcome, HasCommandOutcome}
+use Rattle.ny_top.specs.Outcome.{Outcome, refused, full, HasPlayOutcome, HasProgramOutcome, HasTreeOutcome, HasReadOutcome, HasTextOutcome, HasCommandOutcome}
 
 same_tokens : (text : List ℕ) (tokens others : List Token) → HasTokens text tokens → HasTokens text others → others ≡ tokens
 same_tokens text tokens others spelled again = spells-unique (length text) text tokens others spelled again
@@ -81,8 +81,8 @@ refusal_or_tree text (Check at why) tree (second, again, fault) (has, accepted) 
     no_fault (fault_of tree) (record { at = at; why = why }) accepted (ap fault_of (sym (one_tree text tree second has again)) ∙ fault)
 
 -- an engine that was pulled to its end was not spent
-played_or_full : (r : Render) (terms : List Term) (e : EngineState) (pulls : ℕ) → HasPlayed r terms e → IsFullAfter r terms pulls e → ⊥
-played_or_full r terms e pulls ended stopped = never e.spent (PoolFull pulls r.pool) ended.unspent stopped.spent
+played_or_full : (r : Render) (code : Code) (e : EngineState) (pulls : ℕ) → HasPlayed r code e → IsFullAfter r code pulls e → ⊥
+played_or_full r code e pulls ended stopped = never e.spent (PoolFull pulls r.pool) ended.unspent stopped.spent
   where
     never : (o : Option PullFault) (fault : PullFault) → o ≡ None → o ≡ Some fault → ⊥
     never o fault none is = cc
@@ -90,19 +90,19 @@ played_or_full r terms e pulls ended stopped = never e.spent (PoolFull pulls r.p
 same_head : (n m : ℕ) → n ∷ [] ≡ m ∷ [] → m ≡ n
 same_head n m e = sym (ap (λ xs. slice_index xs 0) e)
 
-one_play : (r : Render) (terms : List Term) (e : EngineState) (o p : Outcome) → HasPlayOutcome r terms e o → HasPlayOutcome r terms e p → p ≡ o
-one_play r terms e o p (inl (ended, o_is)) (inl (again, p_is)) = p_is ∙ sym o_is
-one_play r terms e o p (inl (ended, o_is)) (inr (n, stopped, p_is)) = absurd (played_or_full r terms e n ended stopped)
-one_play r terms e o p (inr (n, stopped, o_is)) (inl (ended, p_is)) = absurd (played_or_full r terms e n ended stopped)
-one_play r terms e o p (inr (n, stopped, o_is)) (inr (m, again, p_is)) = p_is ∙ ap (full r terms) (same_head n m (sym stopped.pulls ∙ again.pulls)) ∙ sym o_is
+one_play : (r : Render) (code : Code) (e : EngineState) (o p : Outcome) → HasPlayOutcome r code e o → HasPlayOutcome r code e p → p ≡ o
+one_play r code e o p (inl (ended, o_is)) (inl (again, p_is)) = p_is ∙ sym o_is
+one_play r code e o p (inl (ended, o_is)) (inr (n, stopped, p_is)) = absurd (played_or_full r code e n ended stopped)
+one_play r code e o p (inr (n, stopped, o_is)) (inl (ended, p_is)) = absurd (played_or_full r code e n ended stopped)
+one_play r code e o p (inr (n, stopped, o_is)) (inr (m, again, p_is)) = p_is ∙ ap (full r code) (same_head n m (sym stopped.pulls ∙ again.pulls)) ∙ sym o_is
 
-one_terms : (r : Render) (terms : Option (List Term)) (left : Option EngineState) (o p : Outcome) → HasTermsOutcome r terms left o → HasTermsOutcome r terms left p → p ≡ o
-one_terms r None left o p is again = again.1 ∙ sym is.1
-one_terms r (Some terms) None o p is again = absurd is
-one_terms r (Some terms) (Some e) o p is again = one_play r terms e o p is again
+one_program : (r : Render) (program : Option Code) (left : Option EngineState) (o p : Outcome) → HasProgramOutcome r program left o → HasProgramOutcome r program left p → p ≡ o
+one_program r None left o p is again = again.1 ∙ sym is.1
+one_program r (Some code) None o p is again = absurd is
+one_program r (Some code) (Some e) o p is again = one_play r code e o p is again
 
 one_of_tree : (task : Task) (tree : Tree) (left : Option EngineState) (o p : Outcome) → HasTreeOutcome task tree left o → HasTreeOutcome task tree left p → p ≡ o
-one_of_tree (render r) tree left o p is again = one_terms r (tree_terms r.rate tree) left o p is again
+one_of_tree (render r) tree left o p is again = one_program r (playable tree) left o p is again
 one_of_tree check tree left o p is again = again.1 ∙ sym is.1
 
 one_read : (task : Task) (text : List ℕ) (left : Option EngineState) (o p : Outcome) → HasReadOutcome task text left o → HasReadOutcome task text left p → p ≡ o

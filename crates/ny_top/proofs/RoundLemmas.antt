@@ -1,5 +1,5 @@
 -- A file that is written in rounds, and the engine that is pulled for it.
-use Rattle.std.proofs.Common.{◌≡◌, ℕ, ◌+◌, ◌-◌, ◌*◌, ◌<◌, ◌≤◌, List, [], ◌∷◌, ◌++◌, take, drop, length, nat_lt, if◌then◌else◌, Some, None, Result, Ok, Err, OnOk, OnErr, IfErr, refl, sym, ap, subst, ◌∙◌, arith, ℤ, slice_index, sum, length-append, length-take, length-drop, lt_of_mul-lt-mul_right, add-mul, one-mul, lt_of_not-le}
+use Rattle.std.proofs.Common.{◌≡◌, ℕ, ◌+◌, ◌-◌, ◌*◌, ◌<◌, ◌≤◌, List, [], ◌∷◌, ◌++◌, take, drop, length, nat_lt, if◌then◌else◌, Some, None, Result, Ok, Err, OnOk, OnErr, IfErr, refl, sym, ap, subst, ◌∙◌, arith, ℤ, slice_index, slice_index_or, sum, length-append, length-take, length-drop, lt_of_mul-lt-mul_right, add-mul, one-mul, lt_of_not-le}
 use Rattle.std.specs.Int.{div_ceil}
 use Rattle.std.proofs.lemmas.List.{take-append-drop, take-append-le, take_all}
 use Rattle.std.proofs.Math.Seq.{take-add, take-append-add}
@@ -11,7 +11,8 @@ use Rattle.ny_heap.specs.Heap.{live_of}
 use Rattle.ny_heap.specs.Reach.{HeapLaws}
 use Rattle.ny_pull.specs.declared.fault.PullFault.{PullFault}
 use Rattle.ny_pull.specs.declared.fault.PullFault.TheVariants as faults
-use Rattle.ny_pull.specs.Channel.{channel_of}
+use Rattle.ny_num.specs.Sound.{silence}
+use Rattle.ny_check.specs.Channels.{channels}
 use Rattle.ny_pull.specs.Engine.{EngineState, channel_at, passed_of, next_block, HasEnded, with_pull, SamePiece, StopsAtFull, full_of}
 use Rattle.ny_wav.specs.WavFile.{frame_of}
 use Rattle.ny_wav.proofs.Frames.{frame_of-nil, frame_of-append}
@@ -87,7 +88,7 @@ one_more : (k b : ℕ) → (k + 1) * b ≡ k * b + b
 one_more k b = add-mul k 1 b ∙ ap (λ n. k * b + n) (one-mul b)
 
 same_channel : (old new : EngineState) → SamePiece old new → channel_at new 0 ≡ channel_at old 0
-same_channel old new same = ap channel_of same.terms
+same_channel old new same = λ i. (slice_index_or (channels (same.code i) (same.rate i)) 0 (silence (same.rate i))).samples
 
 -- a pull that gave samples
 module _ (old new : EngineState) (under : IsUnderway old) (left : passed_of old 0 < length (channel_at old 0)) (n : ℕ) (count : n ≡ length (next_block old 0)) (same : SamePiece old new) (pulled : new.pulled ≡ (if nat_lt 0 n then with_pull old.pulled 0 else old.pulled)) where
@@ -144,7 +145,7 @@ spent_after old new fault n live under is full spent pulled same laws stops =
 
 pub same_then : (start mid new : EngineState) → SamePiece start mid → SamePiece mid new → SamePiece start new
 same_then start mid new first second = record {
-  terms = second.terms ∙ first.terms;
+  code = second.code ∙ first.code;
   rate = second.rate ∙ first.rate;
   channels = second.channels ∙ first.channels;
   pool = second.pool ∙ first.pool;
@@ -236,7 +237,7 @@ counts_then old mid new first second = record {
 }
 
 same_piece : (e : EngineState) → SamePiece e e
-same_piece e = record { terms = refl; rate = refl; channels = refl; pool = refl; block = refl }
+same_piece e = record { code = refl; rate = refl; channels = refl; pool = refl; block = refl }
 
 pub rounds_begin : (e : EngineState) (old : HostState) (file : ℕ) → IsUnderway e → passed_of e 0 ≡ 0 → old.output ≡ Some file → RoundsSoFar e e old old file
 rounds_begin e old file under begins output = record {

@@ -6,8 +6,8 @@ use Rattle.ny_io.specs.Faults.{Rose}
 use Rattle.ny_io.specs.Host.{Named, HostState, added, bytes_under}
 use Rattle.ny_syntax.specs.declared.tree.Tree.{Tree}
 use Rattle.ny_pull.specs.Engine.{EngineState}
-use Rattle.ny_pull.specs.declared.term.Term.{Term}
-use Rattle.ny_top.specs.Channel.{tree_terms, file_of}
+use Rattle.ny_check.specs.Code.{Code}
+use Rattle.ny_top.specs.Channel.{playable, file_of}
 use Rattle.ny_top.specs.Playing.{IsPoolFull}
 use Rattle.ny_top.specs.Reading.{IsAccepted}
 use Rattle.ny_top.specs.Words.{Task, Command, render, check}
@@ -65,7 +65,7 @@ abbrev pub MadeTree : Task → Tree → HostState → HostState → Type 0
 MadeTree check tree old new = new.created ≡ old.created
 MadeTree (render r) tree old new =
     (new.created ≡ old.created)
-    ⊎ ((terms : List Term) × (tree_terms r.rate tree ≡ Some terms) × MadePart r.to (file_of r.rate terms) old new)
+    ⊎ ((code : Code) × (playable tree ≡ Some code) × MadePart r.to (file_of r.rate code) old new)
 
 -- the same of the tree that a text has, if it is accepted
 abbrev pub MadeText : Task → List ℕ → HostState → HostState → Type 0

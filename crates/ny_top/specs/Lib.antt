@@ -4,6 +4,5 @@ pub mod Outcome
 pub mod Reading
 pub mod Rounds
 pub mod Playing
-pub mod Form
 pub mod Views
 pub mod Words

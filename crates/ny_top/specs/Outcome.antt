@@ -7,9 +7,9 @@ use Rattle.ny_syntax.specs.Canonical.{canonical_text}
 use Rattle.ny_top.specs.declared.reading.Refusal.{Refusal}
 use Rattle.ny_top.specs.Reading.{IsAccepted, IsRefusal, refusal_text}
 use Rattle.ny_report.specs.Lines.{full_line_of}
-use Rattle.ny_pull.specs.declared.term.Term.{Term}
+use Rattle.ny_check.specs.Code.{Code}
 use Rattle.ny_pull.specs.Engine.{EngineState}
-use Rattle.ny_top.specs.Channel.{tree_terms, file_of, first_frames}
+use Rattle.ny_top.specs.Channel.{playable, file_of, first_frames}
 use Rattle.ny_top.specs.Playing.{HasPlayed, IsFullAfter}
 use Rattle.ny_top.specs.Words.{Render, Task, Command, render, check, read_words}
 use Rattle.ny_top.specs.declared.status.Status.{Status}
@@ -66,24 +66,24 @@ abbrev pub refused : List ℕ → Outcome
 refused line = record { status = Refused; file = None; printed = line }
 
 -- the whole file, and nothing printed
-abbrev pub played : Render → List Term → Outcome
-played r terms = record { status = Ok; file = Some (r.to, file_of r.rate terms); printed = [] }
+abbrev pub played : Render → Code → Outcome
+played r code = record { status = Ok; file = Some (r.to, file_of r.rate code); printed = [] }
 
 -- the header of the whole file, the frames of so many rounds, and the line of a full pool
-abbrev pub full : Render → List Term → ℕ → Outcome
-full r terms pulls =
-    record { status = PoolFull; file = Some (r.to, first_frames r.rate terms (pulls * r.block)); printed = full_line_of pulls }
+abbrev pub full : Render → Code → ℕ → Outcome
+full r code pulls =
+    record { status = PoolFull; file = Some (r.to, first_frames r.rate code (pulls * r.block)); printed = full_line_of pulls }
 
--- the outcome for these terms and the engine that is left, which tells whether they were played to the end
-abbrev pub HasPlayOutcome : Render → List Term → EngineState → Outcome → Type 0
-HasPlayOutcome r terms e o =
-    (HasPlayed r terms e × (o ≡ played r terms)) ⊎ ((pulls : ℕ) × IsFullAfter r terms pulls e × (o ≡ full r terms pulls))
+-- the outcome for a program and the engine that is left, which tells whether it was played to the end
+abbrev pub HasPlayOutcome : Render → Code → EngineState → Outcome → Type 0
+HasPlayOutcome r code e o =
+    (HasPlayed r code e × (o ≡ played r code)) ⊎ ((pulls : ℕ) × IsFullAfter r code pulls e × (o ≡ full r code pulls))
 
--- the outcome for the terms of a program and the engine that is left; a program that can't be played yet is refused
-abbrev pub HasTermsOutcome : Render → Option (List Term) → Option EngineState → Outcome → Type 0
-HasTermsOutcome r None left o = (left ≡ None) × (o ≡ refused form_line)
-HasTermsOutcome r (Some terms) None o = ⊥
-HasTermsOutcome r (Some terms) (Some e) o = HasPlayOutcome r terms e o
+-- the outcome for a program that can be played and the engine that is left; one that can't be played yet is refused
+abbrev pub HasProgramOutcome : Render → Option Code → Option EngineState → Outcome → Type 0
+HasProgramOutcome r None left o = (left ≡ None) × (o ≡ refused form_line)
+HasProgramOutcome r (Some code) None o = ⊥
+HasProgramOutcome r (Some code) (Some e) o = HasPlayOutcome r code e o
 
 -- the canonical text, and no file
 abbrev pub checked : Tree → Outcome
@@ -91,7 +91,7 @@ checked tree = record { status = Ok; file = None; printed = canonical_text tree 
 
 -- the outcome for an accepted tree
 abbrev pub HasTreeOutcome : Task → Tree → Option EngineState → Outcome → Type 0
-HasTreeOutcome (render r) tree left o = HasTermsOutcome r (tree_terms r.rate tree) left o
+HasTreeOutcome (render r) tree left o = HasProgramOutcome r (playable tree) left o
 HasTreeOutcome check tree left o = (left ≡ None) × (o ≡ checked tree)
 
 -- the outcome for a text that is not too long: that of its tree, where it is accepted, or its refusal

@@ -1,13 +1,14 @@
 -- The engine that a run leaves: whether it played a piece to its end, or found its pool full.
-use Rattle.std.specs.Prelude.{◌≡◌, ℕ, ◌≤◌, List, [], ◌∷◌, length, Some, None}
+use Rattle.std.specs.Prelude.{◌≡◌, ℕ, ◌<◌, ◌≤◌, [], ◌∷◌, map, length, Some, None}
 use Rattle.std.specs.Int.{div_ceil}
 use Rattle.ny_num.specs.Grid.{last_index}
 use Rattle.ny_heap.specs.Heap.{live_of}
 use Rattle.ny_heap.specs.Reach.{HeapLaws}
-use Rattle.ny_pull.specs.declared.term.Term.{Term}
+use Rattle.ny_num.specs.Sound as sounds
+use Rattle.ny_check.specs.Code.{Code}
+use Rattle.ny_check.specs.Channels.{channels}
 use Rattle.ny_pull.specs.declared.fault.PullFault.TheVariants.{PoolFull}
-use Rattle.ny_pull.specs.Channel.{channel_of}
-use Rattle.ny_pull.specs.Engine.{EngineState, HasEnded, SamePiece, StopsAtFull}
+use Rattle.ny_pull.specs.Engine.{EngineState, channel_at, HasEnded, SamePiece, StopsAtFull}
 use Rattle.ny_top.specs.Words.{Render}
 
 -- the engine has the rate, the pool and the block length that are asked for
@@ -16,22 +17,22 @@ pub record IsAsked (r : Render) (e : EngineState) : Type 0 where
   pub pool : e.heap.pool ≡ r.pool
   pub block : e.heap.block ≡ r.block
 
--- how many rounds a sum takes: one for each block of its channel
-abbrev pub rounds_of : ℕ → List Term → ℕ
-rounds_of block terms = div_ceil (length (channel_of terms)) block
+-- how many pulls a channel takes: one for each of its blocks
+abbrev pub pulls_of : ℕ → sounds.Sound → ℕ
+pulls_of block channel = div_ceil (length channel.samples) block
 
--- the engine has given all samples of these terms, by a pull for each block
-pub record HasPlayed (r : Render) (terms : List Term) (e : EngineState) : Type 0 where
+-- the engine has given all samples of this program, by a pull for each block of each channel
+pub record HasPlayed (r : Render) (code : Code) (e : EngineState) : Type 0 where
   pub asked : IsAsked r e
-  pub piece : e.terms ≡ terms
-  pub pulls : e.pulled ≡ rounds_of r.block terms ∷ []
-  pub ended : HasEnded e 0
+  pub piece : e.code ≡ code
+  pub pulls : e.pulled ≡ map (pulls_of r.block) (channels code r.rate)
+  pub ended : (c : ℕ) → c < length e.channels → HasEnded e c
   pub unspent : e.spent ≡ None
 
--- the engine has given so many blocks of these terms, and its pool was full at the pull after them
-pub record IsFullAfter (r : Render) (terms : List Term) (count : ℕ) (e : EngineState) : Type 0 where
+-- the engine has given so many blocks of this program, and its pool was full at the pull after them
+pub record IsFullAfter (r : Render) (code : Code) (count : ℕ) (e : EngineState) : Type 0 where
   pub asked : IsAsked r e
-  pub piece : e.terms ≡ terms
+  pub piece : e.code ≡ code
   pub pulls : e.pulled ≡ count ∷ []
   pub spent : e.spent ≡ Some (PoolFull count r.pool)
 
@@ -55,7 +56,8 @@ IsPoolFull r e = IsAsked r e × IsStopped e
 pub record IsNew (r : Render) (e : EngineState) : Type 0 where
   pub asked : IsAsked r e
   pub channel : length e.channels ≡ 1
+  pub one : length (channels e.code e.rate) ≡ 1
   pub pulls : e.pulled ≡ 0 ∷ []
   pub unspent : e.spent ≡ None
   pub laws : HeapLaws e.heap
-  pub hour : length (channel_of e.terms) ≤ last_index r.rate
+  pub hour : length (channel_at e 0) ≤ last_index r.rate

@@ -59,5 +59,5 @@ EndsRounds start e old new OutOfMemory = Unit {0}
 abbrev pub EndsFile : EngineState → EngineState → HostState → HostState → RoundFault → Type 0
 EndsFile start e old new Write = Rose old.writes new.writes
 EndsFile start e old new (PoolFull count) =
-    IsSpentAfter start e count × Wrote (first_frames start.rate start.terms (count * start.heap.block)) old new
+    IsSpentAfter start e count × Wrote (first_frames start.rate start.code (count * start.heap.block)) old new
 EndsFile start e old new OutOfMemory = Unit {0}

@@ -33,9 +33,9 @@ fn write_parts<H: Host>(
     requires bytes { length buffers.old.bytes.items ≡ 2 * render.block }
     ensures counts { NoneFell (H.state host.old) (H.state host.new) }
     ensures played { OnOk result (IsPulledOut engine.old engine.new) }
-    ensures whole { OnOk result (Wrote (file_of render.entry.rate engine.old.terms) (H.state host.old) (H.state host.new)) }
+    ensures whole { OnOk result (Wrote (file_of render.entry.rate engine.old.code) (H.state host.old) (H.state host.new)) }
     ensures fault { IfErr result (λ fault. EndsFile engine.old engine.new (H.state host.old) (H.state host.new) fault) }
-    ensures part { OnErr result (WrotePart (file_of render.entry.rate engine.old.terms) (H.state host.old) (H.state host.new)) }
+    ensures part { OnErr result (WrotePart (file_of render.entry.rate engine.old.code) (H.state host.old) (H.state host.new)) }
     ensures files { (H.state host.new).files ≡ (H.state host.old).files }
     ensures printed { (H.state host.new).printed ≡ (H.state host.old).printed }
 {
@@ -67,16 +67,16 @@ pub(crate) fn write_file<H: Host>(
     ensures counts { NoneFell (H.state host.old) (H.state host.new) }
     ensures files { (H.state host.new).files ≡ (H.state host.old).files }
     ensures status { (result ≢ Status.Usage) × (result ≢ Status.ReadFault) × (result ≢ Status.Refused) }
-    ensures whole { IsTrue (is_whole result) → EndsAs (HasPlayOutcome (render_view render.entry) engine.old.terms engine.new) result (H.state host.old) (H.state host.new) }
+    ensures whole { IsTrue (is_whole result) → EndsAs (HasPlayOutcome (render_view render.entry) engine.old.code engine.new) result (H.state host.old) (H.state host.new) }
     ensures pool_full { result ≡ Status.PoolFull → IsPoolFull (render_view render.entry) engine.new }
     ensures create { result ≡ Status.OpenFault → Rose ((H.state host.old).creates render.entry.output.now) ((H.state host.new).creates render.entry.output.now)
         × ((H.state host.new).printed ≡ append_known (H.state host.old).printed (create_line render.entry.output.now)) }
     ensures write { result ≡ Status.WriteFault → Rose (H.state host.old).writes (H.state host.new).writes }
     ensures told { result ≡ Status.WriteFault → FaultTold [] (H.state host.old) (H.state host.new)
-        ⊎ ToldAs (HasPlayOutcome (render_view render.entry) engine.old.terms engine.new) (H.state host.old) (H.state host.new)
+        ⊎ ToldAs (HasPlayOutcome (render_view render.entry) engine.old.code engine.new) (H.state host.old) (H.state host.new)
         ⊎ (Rose ((H.state host.old).creates render.entry.output.now) ((H.state host.new).creates render.entry.output.now) × FaultTold (create_line render.entry.output.now) (H.state host.old) (H.state host.new)) }
     ensures memory { result ≡ Status.OutOfMemory → (H.state host.new).printed ≡ (H.state host.old).printed }
-    ensures part { MadePart render.entry.output.now (file_of render.entry.rate engine.old.terms) (H.state host.old) (H.state host.new) }
+    ensures part { MadePart render.entry.output.now (file_of render.entry.rate engine.old.code) (H.state host.old) (H.state host.new) }
 {
     let file = match host.create(render.output) {
         Ok(file) => file,

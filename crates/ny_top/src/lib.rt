@@ -1,18 +1,15 @@
 //! A run of the program over any host: words, a text, a file (`docs/ARCHITECTURE.md`).
 #![tactic(auto)]
 
-mod constant;
 mod ends;
 mod entry;
 mod file;
-mod form;
 mod names;
 mod play;
 mod reading;
 mod rounds;
 mod song;
 mod status;
-mod term;
 mod text;
 mod words;
 

@@ -25,26 +25,26 @@ pub(crate) fn play<H: Host>(
     alloc: Global,
     host: &mut H,
     render: Render,
-    accepted: &Accepted,
+    accepted: Accepted,
     left: &mut Option<Engine>,
 ) -> Status
     requires asked { IsInRange (task_view (Plays render)) }
-    requires program { program_in accepted.now.tree ≡ Some accepted.now.program }
+    requires program { program_in accepted.tree ≡ Some accepted.program }
     requires left { left.old ≡ None }
     ensures counts { NoneFell (H.state host.old) (H.state host.new) }
     ensures files { (H.state host.new).files ≡ (H.state host.old).files }
     ensures status { (result ≢ Status.Usage) × (result ≢ Status.ReadFault) }
-    ensures whole { IsTrue (is_whole result) → EndsAs (HasTreeOutcome (task_view (Plays render.entry)) accepted.now.tree left.new) result (H.state host.old) (H.state host.new) }
+    ensures whole { IsTrue (is_whole result) → EndsAs (HasTreeOutcome (task_view (Plays render.entry)) accepted.tree left.new) result (H.state host.old) (H.state host.new) }
     ensures pool_full { result ≡ Status.PoolFull → TaskPoolFull (task_view (Plays render.entry)) left.new }
     ensures create { result ≡ Status.OpenFault → CreateCause (task_view (Plays render.entry)) (H.state host.old) (H.state host.new) }
     ensures write { result ≡ Status.WriteFault → Rose (H.state host.old).writes (H.state host.new).writes }
     ensures told { result ≡ Status.WriteFault → FaultTold [] (H.state host.old) (H.state host.new)
-        ⊎ ToldAs (HasTreeOutcome (task_view (Plays render.entry)) accepted.now.tree left.new) (H.state host.old) (H.state host.new)
+        ⊎ ToldAs (HasTreeOutcome (task_view (Plays render.entry)) accepted.tree left.new) (H.state host.old) (H.state host.new)
         ⊎ CreateTold (task_view (Plays render.entry)) (H.state host.old) (H.state host.new) }
     ensures memory { result ≡ Status.OutOfMemory → (H.state host.new).printed ≡ (H.state host.old).printed }
-    ensures part { MadeTree (task_view (Plays render.entry)) accepted.now.tree (H.state host.old) (H.state host.new) }
+    ensures part { MadeTree (task_view (Plays render.entry)) accepted.tree (H.state host.old) (H.state host.new) }
 {
-    match open_song(alloc, render, accepted) {
+    match open_song(alloc, render, accepted.program) {
         Ok(Some(song)) => {
             let Song {
                 mut engine,

@@ -61,25 +61,25 @@ fn run_accepted<H: Host>(
     alloc: Global,
     host: &mut H,
     task: Task,
-    accepted: &Accepted,
+    accepted: Accepted,
     left: &mut Option<Engine>,
 ) -> Status
     requires asked { IsInRange (task_view task) }
     requires left { left.old ≡ None }
-    requires height { canonical_height accepted.now.tree ≤ height_limit }
-    requires program { program_in accepted.now.tree ≡ Some accepted.now.program }
+    requires height { canonical_height accepted.tree ≤ height_limit }
+    requires program { program_in accepted.tree ≡ Some accepted.program }
     ensures counts { NoneFell (H.state host.old) (H.state host.new) }
     ensures files { (H.state host.new).files ≡ (H.state host.old).files }
     ensures status { (result ≢ Status.Usage) × (result ≢ Status.ReadFault) }
-    ensures whole { IsTrue (is_whole result) → EndsAs (HasTreeOutcome (task_view task.entry) accepted.now.tree left.new) result (H.state host.old) (H.state host.new) }
+    ensures whole { IsTrue (is_whole result) → EndsAs (HasTreeOutcome (task_view task.entry) accepted.tree left.new) result (H.state host.old) (H.state host.new) }
     ensures pool_full { result ≡ Status.PoolFull → TaskPoolFull (task_view task.entry) left.new }
     ensures create { result ≡ Status.OpenFault → CreateCause (task_view task.entry) (H.state host.old) (H.state host.new) }
     ensures write { result ≡ Status.WriteFault → Rose (H.state host.old).writes (H.state host.new).writes }
     ensures told { result ≡ Status.WriteFault → FaultTold [] (H.state host.old) (H.state host.new)
-        ⊎ ToldAs (HasTreeOutcome (task_view task.entry) accepted.now.tree left.new) (H.state host.old) (H.state host.new)
+        ⊎ ToldAs (HasTreeOutcome (task_view task.entry) accepted.tree left.new) (H.state host.old) (H.state host.new)
         ⊎ CreateTold (task_view task.entry) (H.state host.old) (H.state host.new) }
     ensures memory { result ≡ Status.OutOfMemory → (H.state host.new).printed ≡ (H.state host.old).printed }
-    ensures part { MadeTree (task_view task.entry) accepted.now.tree (H.state host.old) (H.state host.new) }
+    ensures part { MadeTree (task_view task.entry) accepted.tree (H.state host.old) (H.state host.new) }
 {
     match task {
         Task::Render(render) => play(alloc, host, render, accepted, left),
@@ -112,7 +112,7 @@ pub(crate) fn run_text<H: Host>(
     ensures part { MadeText (task_view task.entry) text.now (H.state host.old) (H.state host.new) }
 {
     match read_text(alloc, text) {
-        Ok(accepted) => run_accepted(alloc, host, task, &accepted, left),
+        Ok(accepted) => run_accepted(alloc, host, task, accepted, left),
         Err(TextFault::Refused(refusal)) => refuse(alloc, host, refusal),
         Err(TextFault::OutOfMemory) => Status::OutOfMemory,
     }

@@ -1,9 +1,14 @@
 pub mod Corners
+pub mod Inputs
 pub mod Loudnesses
 pub mod Noises
 pub mod OnLines
 pub mod PartWritten
+pub mod Pieces
 pub mod Phases
+pub mod Positions
 pub mod Risings
+pub mod Stretches
 pub mod Runs
 pub mod Reaching
+pub mod Resampled

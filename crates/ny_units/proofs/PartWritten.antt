@@ -1,7 +1,7 @@
 -- A list that was written in parts, one after another.
-use Rattle.std.proofs.Common.{◌≡◌, ℕ, zero, suc, ◌+◌, ◌-◌, ◌≤◌, List, ◌∷◌, ◌++◌, length, map, take, drop, refl, sym, ap, ◌∙◌, length-append, length-drop, arith}
+use Rattle.std.proofs.Common.{◌≡◌, ℕ, zero, suc, ◌+◌, ◌-◌, ◌≤◌, List, ◌∷◌, ◌++◌, length, map, take, drop, refl, sym, ap, ◌∙◌, length-append, length-drop, drop_of_length-le, arith}
 use Rattle.std.specs.List.{range_with_len}
-use Rattle.std.proofs.lemmas.List.{take-append-drop}
+use Rattle.std.proofs.lemmas.List.{take-append-drop, append-nil}
 use Rattle.std.proofs.lemmas.List.FromFn.{length-map-range_with_len}
 use Rattle.std.proofs.lemmas.Slice.{take-put_mid, drop-put_mid, drop-append-drop}
 use Rattle.std.proofs.Math.Seq.{take-append_seam}
@@ -39,3 +39,10 @@ part_written f from done end first out part forward within is new =
     drop-put_mid done (end - done) out part end (omega arith) (omega (arith, long)) some
     ∙ ap (drop end) is ∙ drop-append-drop done first (map f (range_with_len from done)) end forward begun in
     sym (take-append-drop end (put_mid done (end - done) out part)) ∙ ap (λ xs. xs ++ drop end (put_mid done (end - done) out part)) front ∙ ap (λ xs. map f (range_with_len from end) ++ xs) back
+
+-- once all places are written
+pub all_written : {X : Type 0} (f : ℕ → X) (from done : ℕ) (first out : List X) → done ≤ length first → length first ≤ done
+    → out ≡ map f (range_with_len from done) ++ drop done first → out ≡ map f (range_with_len from (length first))
+all_written f from done first out within all is =
+    let end : done ≡ length first = omega arith in
+    is ∙ ap (λ rest. map f (range_with_len from done) ++ rest) (drop_of_length-le first {i = done} all) ∙ append-nil (map f (range_with_len from done)) ∙ ap (λ n. map f (range_with_len from n)) end

@@ -42,7 +42,7 @@ fn fill_loud_wave<const N: usize>(
 }
 
 // A constant sample.
-fn fill_constant(value: Sample, from: u32, out: &mut [Sample])
+pub(crate) fn fill_constant(value: Sample, from: u32, out: &mut [Sample])
     ensures { out.new ≡ map (λ n. value) (range_with_len from (length out.old)) }
 {
     out.fill(value);

@@ -7,6 +7,9 @@ use Rattle.ny_check.proofs.scalar.+scalar.Given as goal
 abbrev pub decreases-scalar : goal.decreases-scalar
 decreases-scalar l = 2 * l.e.0 + 1
 
+abbrev pub decreases-global_scalar : goal.decreases-global_scalar
+decreases-global_scalar l = 2 * l.value.0 + 2
+
 abbrev pub decreases-argument_scalars : goal.decreases-argument_scalars
 decreases-argument_scalars l = 2 * l.call.0
 

@@ -1,25 +1,44 @@
-use Rattle.std.proofs.Common.{◌≡◌, drop, map, [], take, length}
+use Rattle.std.proofs.Common.{◌≡◌, ◌≤◌, ◌+◌, ◌++◌, drop, map, [], take, length}
+use Rattle.ny_syntax.specs.Sizes.{total, size_of, size_of_bind}
+use Rattle.ny_resolve.specs.Faults.{earliest_after}
+use Rattle.ny_resolve.specs.Sizes.{size_of_part, size_of_bound}
 use Rattle.ny_resolve.specs.Names.{scope_of}
-use Rattle.ny_resolve.specs.Reading.{reading, reading_of_bind, read_parts, read_binds, arguments_read}
+use Rattle.ny_resolve.specs.Reading.{ReadParts, ReadBinds, reading, reading_of_bind, read_parts, read_binds, arguments_read}
 use Rattle.ny_resolve.proofs.reading.+read.Given as goal
 
+-- what is read so far, and then the rest, is the whole
 abbrev pub invariant-read_each-loop-part : goal.invariant-read_each-loop-part
-invariant-read_each-loop-part l = record {
-  read : read_parts (map reading (drop l.part-index l.parts)) (scope_of l.names l.here l.locals) l.done l.first ≡ read_parts (map reading l.parts) (scope_of l.names l.here l.fn.locals) [] l.fn.first;
-  same : l.locals ≡ l.fn.locals;
-}
+invariant-read_each-loop-part l =
+    let whole : ReadParts = read_parts (map reading l.parts) (scope_of l.names l.here l.fn.locals) in
+    let rest : ReadParts = read_parts (map reading (drop l.part-index l.parts)) (scope_of l.names l.here l.locals) in
+    record {
+      parts : l.done ++ rest.parts ≡ whole.parts;
+      first : earliest_after l.first rest.faults ≡ earliest_after l.fn.first whole.faults;
+      same : l.locals ≡ l.fn.locals;
+      small : total (map size_of_part l.done) + total (map size_of (drop l.part-index l.parts)) ≤ total (map size_of l.parts);
+    }
 
 abbrev pub invariant-read_arguments-loop-j : goal.invariant-read_arguments-loop-j
-invariant-read_arguments-loop-j l = record {
-  read : arguments_read l.builtin l.counter l.at l.j (map reading (drop l.j l.parts)) (scope_of l.names l.here l.locals) l.done l.first
-      ≡ arguments_read l.builtin l.counter l.at 0 (map reading l.parts) (scope_of l.names l.here l.fn.locals) [] l.fn.first;
-  same : l.locals ≡ l.fn.locals;
-}
+invariant-read_arguments-loop-j l =
+    let whole : ReadParts = arguments_read l.builtin l.counter l.at 0 (map reading l.parts) (scope_of l.names l.here l.fn.locals) in
+    let rest : ReadParts = arguments_read l.builtin l.counter l.at l.j (map reading (drop l.j l.parts)) (scope_of l.names l.here l.locals) in
+    record {
+      parts : l.done ++ rest.parts ≡ whole.parts;
+      first : earliest_after l.first rest.faults ≡ earliest_after l.fn.first whole.faults;
+      same : l.locals ≡ l.fn.locals;
+      small : total (map size_of_part l.done) + total (map size_of (drop l.j l.parts)) ≤ total (map size_of l.parts);
+      count : length l.done ≡ l.j;
+    }
 
 -- the names bound so far stand after those from outside
 abbrev pub invariant-read_each_bind-loop-bind : goal.invariant-read_each_bind-loop-bind
-invariant-read_each_bind-loop-bind l = record {
-  read : read_binds (map reading_of_bind (drop l.bind-index l.binds)) l.seen.entries (scope_of l.names l.here l.locals) l.done l.first
-      ≡ read_binds (map reading_of_bind l.binds) [] (scope_of l.names l.here l.fn.locals) [] l.fn.first;
-  kept : take (length l.fn.locals) l.locals ≡ l.fn.locals;
-}
+invariant-read_each_bind-loop-bind l =
+    let whole : ReadBinds = read_binds (map reading_of_bind l.binds) [] (scope_of l.names l.here l.fn.locals) in
+    let rest : ReadBinds = read_binds (map reading_of_bind (drop l.bind-index l.binds)) l.seen.entries (scope_of l.names l.here l.locals) in
+    record {
+      binds : l.done ++ rest.binds ≡ whole.binds;
+      bound : rest.scope ≡ whole.scope;
+      first : earliest_after l.first rest.faults ≡ earliest_after l.fn.first whole.faults;
+      kept : take (length l.fn.locals) l.locals ≡ l.fn.locals;
+      small : total (map size_of_bound l.done) + total (map size_of_bind (drop l.bind-index l.binds)) ≤ total (map size_of_bind l.binds);
+    }

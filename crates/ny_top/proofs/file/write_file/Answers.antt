@@ -28,7 +28,7 @@ returns-in-Ok-write_parts-clause-whole g c = λ whole.
 
 pub returns-in-Ok-write_parts-clause-part : goal.returns-in-Ok-write_parts-clause-part
 returns-in-Ok-write_parts-clause-part g c =
-    made_whole c.args.render.output.now (file_of c.args.render.rate c.args.engine.now.terms)
+    made_whole c.args.render.output.now (file_of c.args.render.rate c.args.engine.now.code)
     (g.H.Host.state c.args.host.now) (g.H.Host.state c.create.new.self) (g.H.Host.state c.write_parts.new.host)
     c.in-Ok.ensures.created c.in-Ok-write_parts.ensures.whole
 
@@ -45,7 +45,7 @@ returns-in-Err-Write-clause-told g c = λ is.
 pub returns-in-Err-Write-clause-part : goal.returns-in-Err-Write-clause-part
 returns-in-Err-Write-clause-part g c =
     let to = c.args.render.output.now in
-    let bytes = file_of c.args.render.rate c.args.engine.now.terms in
+    let bytes = file_of c.args.render.rate c.args.engine.now.code in
     let old = g.H.Host.state c.args.host.now in
     let later = g.H.Host.state c.write_parts.new.host in
     let part = c.in-Err-Write.ensures.part in
@@ -78,7 +78,7 @@ returns-in-Err-PoolFull-clause-told g c = λ is.
 pub returns-in-Err-PoolFull-clause-part : goal.returns-in-Err-PoolFull-clause-part
 returns-in-Err-PoolFull-clause-part g c =
     let to = c.args.render.output.now in
-    let bytes = file_of c.args.render.rate c.args.engine.now.terms in
+    let bytes = file_of c.args.render.rate c.args.engine.now.code in
     let old = g.H.Host.state c.args.host.now in
     let later = g.H.Host.state c.write_parts.new.host in
     let part = c.in-Err-PoolFull.ensures.part in
@@ -89,5 +89,5 @@ returns-in-Err-PoolFull-clause-part g c =
 pub returns-in-Err-OutOfMemory-clause-part : goal.returns-in-Err-OutOfMemory-clause-part
 returns-in-Err-OutOfMemory-clause-part g c =
     let part = c.in-Err-OutOfMemory.ensures.part in
-    made_part c.args.render.output.now (file_of c.args.render.rate c.args.engine.now.terms)
+    made_part c.args.render.output.now (file_of c.args.render.rate c.args.engine.now.code)
     (g.H.Host.state c.args.host.now) (g.H.Host.state c.create.new.self) (g.H.Host.state c.write_parts.new.host) part.0 c.in-Ok.ensures.created part.2

@@ -1,0 +1,134 @@
+-- A leaf as a unit.
+use Rattle.std.proofs.Common.{◌≡◌, ℕ, zero, suc, ◌+◌, ◌-◌, ◌≤◌, List, [], ◌∷◌, map, refl, sym, ap, subst, ◌∙◌, arith, ℤ, pos, neg_ℤ, ◌≤ℤ◌}
+use Rattle.std.proofs.lemmas.Int.{ints, int_max_is, int_min_is}
+use Rattle.std.specs.List.{range_with_len}
+use Rattle.std.specs.Int.{int_min, int_max}
+use Rattle.ny_num.specs.Numbers.{sat_sample, sample_limit, sample_mul}
+use Rattle.ny_num.specs.declared.rate.Rate.{Rate}
+use Rattle.ny_num.specs.declared.timing.Timing.{Timing}
+use Rattle.ny_num.specs.Leaves as leaves
+use Rattle.ny_num.specs.Leaves.{louder_value, leaf_timing, wave_value, noise_value, increment, key_hz, key_of, seed_of}
+use Rattle.ny_num.specs.Sound as sounds
+use Rattle.ny_num.specs.Sound.{IsTiming, timing_of, sound_of, spanning}
+use Rattle.ny_warp.specs.declared.env.Env.{Env}
+use Rattle.ny_check.specs.Behaviours.{sustained_timing, rest_timing, const_sound, osc_sound, hzosc_sound, noise_sound, rest_sound}
+use Rattle.ny_units.specs.declared.leaves.Leaf.{Leaf as LeafOf}
+use Rattle.ny_units.specs.declared.leaves.Leaf.TheVariants.{Const, Osc, HzOsc, Noise}
+use Rattle.ny_units.specs.Playing.{leaf_value, IsLeaf, Reaches}
+use Rattle.ny_heap.specs.Heap.{Made, HeapState}
+use Rattle.ny_heap.specs.Means.{KeepsMeaning}
+use Rattle.ny_heap.specs.Reach.{HeapLaws, IsTrimmed}
+use Rattle.ny_heap.specs.Steps.{IsMadeOf, Makes, MakesMeaning, without_sounds}
+use Rattle.ny_heap.specs.declared.make.Make.TheVariants.{Leaf}
+use Rattle.ny_heap.specs.declared.sound.Sound.{Sound}
+use Rattle.ny_eval.specs.Turns.{Turns, IsAsBefore}
+use Rattle.ny_eval.proofs.MadeLemmas.{made_turns, nothing_left}
+use Rattle.ny_eval.proofs.SoundLemmas.{timing_of-sound_of}
+use Rattle.ny_eval.proofs.TurnLemmas.{came_none, hears_none}
+
+-- ---- samples counted from the start
+
+map_shifted : (f : ℕ → ℤ) (start from len : ℕ) → start ≤ from → map (λ m. f (m - start)) (range_with_len from len) ≡ map f (range_with_len (from - start) len)
+map_shifted f start from zero le = refl
+map_shifted f start from (suc len) le =
+    let next : from + 1 - start ≡ from - start + 1 = omega arith in
+    (λ i. f (from - start) ∷ (map_shifted f start (from + 1) len (omega arith) ∙ ap (λ n. map f (range_with_len n len)) next) i)
+
+-- a sound whose values count from its start is a leaf
+pub leaf_is : (t : Timing) (f : ℕ → ℤ) → sound_of t (λ m. f (m - t.start)) ≡ leaves.leaf t f
+unfolding sound_of leaves.leaf
+leaf_is t f =
+    let none : t.start - t.start ≡ 0 = omega arith in
+    let remade : List ℤ → sounds.Sound = λ xs. record { rate = t.rate; start = t.start; stop = t.stop; samples = xs } in
+    ap remade (map_shifted f t.start t.start t.len (omega arith) ∙ ap (λ n. map f (range_with_len n t.len)) none)
+
+leaf_timing_is : (t : Timing) (f : ℕ → ℤ) → t ≡ timing_of (leaves.leaf t f)
+leaf_timing_is t f = sym (timing_of-sound_of t (λ m. f (m - t.start))) ∙ ap timing_of (leaf_is t f)
+
+-- ---- the unit
+
+pub leaf_made : (l : LeafOf) (xs : List Sound) (t : Timing) → xs ≡ [] → IsLeaf l → Reaches l t.len → IsTiming t → IsMadeOf (Leaf l) xs t
+leaf_made l xs t none is reaches bounds = subst (λ ys. IsMadeOf (Leaf l) ys t) (sym none) (record { count = refl; bounds = bounds; rates = λ k d within. absurd (omega (arith, within)); heard = λ some. (is, reaches) })
+
+pub leaf_turns : {B : Type 0} (old new : HeapState B) (l : LeafOf) (t : Timing) (xs : List Sound) (s : Sound) (height : ℕ) → xs ≡ [] → HeapLaws old → HeapLaws new → IsTiming t → Makes old new (Made (Leaf l)) t xs [] xs s → MakesMeaning old new (Made (Leaf l)) t xs [] s → Turns old new s height (leaves.leaf t (leaf_value l))
+leaf_turns old new l t xs s height none laws laws_new bounds makes meaning =
+    made_turns old old new (Made (Leaf l)) t [] s height (leaves.leaf t (leaf_value l)) (came_none old height laws) laws laws_new bounds
+    (subst (λ ys. Makes old new (Made (Leaf l)) t ys [] ys s) none makes)
+    (subst (λ ys. MakesMeaning old new (Made (Leaf l)) t ys [] s) none meaning)
+    (leaf_timing_is t (leaf_value l))
+    (λ part w means. (hears_none part old w means, leaf_is t (leaf_value l)))
+
+pub leaf_refused : {B : Type 0} (old new : HeapState B) (xs : List Sound) → xs ≡ [] → HeapLaws old → HeapLaws new → IsTrimmed (without_sounds old xs) new → KeepsMeaning old new → IsAsBefore old new
+leaf_refused old new xs none laws laws_new trimmed keeps =
+    nothing_left old old new [] 0 (came_none old 0 laws) laws_new (subst (λ ys. IsTrimmed (without_sounds old ys) new) none trimmed) (λ part w means. record { later = w; means = keeps part w means; extends = λ v x at. refl })
+
+-- ---- loudness
+
+clamp_is : (low high z : ℤ) → low ≤ℤ z → z ≤ℤ high → int_max low (int_min z high) ≡ z
+clamp_is low high z above below =
+    let most = int_max_is low (int_min z high) in
+    let least = int_min_is z high in
+    omega (arith, ints, most, least)
+
+clamped : (low high z : ℤ) → low ≤ℤ high → (low ≤ℤ int_max low (int_min z high)) × (int_max low (int_min z high) ≤ℤ high)
+clamped low high z le =
+    let most = int_max_is low (int_min z high) in
+    let least = int_min_is z high in
+    (omega (arith, ints, most, least), omega (arith, ints, most, least))
+
+sample_twice : (z : ℤ) → sat_sample (sat_sample z) ≡ sat_sample z
+unfolding sat_sample
+sample_twice z =
+    let within = clamped (neg_ℤ sample_limit) sample_limit z (omega (arith, ints)) in
+    clamp_is (neg_ℤ sample_limit) sample_limit (int_max (neg_ℤ sample_limit) (int_min z sample_limit)) within.0 within.1
+
+-- a loudness becomes a sample once
+louder_twice : (loudness x : ℤ) → louder_value (sat_sample loudness) x ≡ louder_value loudness x
+unfolding louder_value
+louder_twice loudness x = ap (λ k. sample_mul k x) (sample_twice loudness)
+
+-- ---- each kind
+
+same_leaf : (t u : Timing) (f g : ℕ → ℤ) → t ≡ u → ((n : ℕ) → f n ≡ g n) → leaves.leaf t f ≡ leaves.leaf u g
+same_leaf t u f g when same i = leaves.leaf (when i) (λ n. same n i)
+
+pub constant_is : (env : Env) (v d value len : ℤ) (k : ℤ) (t : Timing) → value ≡ v → len ≡ d → t ≡ sustained_timing env.sound_rate env len → k ≡ sat_sample value → leaves.leaf t (leaf_value (Const k)) ≡ const_sound env v d
+unfolding const_sound leaf_value
+constant_is env v d value len k t at_v at_d when is =
+    same_leaf t (sustained_timing env.sound_rate env d) (λ n. k) (λ n. sat_sample v) (when ∙ ap (sustained_timing env.sound_rate env) at_d) (λ n. is ∙ ap sat_sample at_v)
+
+pub osc_is : (env : Env) (key d number len : ℤ) (inc : ℕ) (loud : ℤ) (t : Timing) → number ≡ key → len ≡ d → t ≡ sustained_timing env.sound_rate env len → inc ≡ increment (key_hz (key_of number env.transpose)) env.sound_rate → loud ≡ sat_sample env.loud → leaves.leaf t (leaf_value (Osc inc loud)) ≡ osc_sound env key d
+unfolding osc_sound leaf_value
+osc_is env key d number len inc loud t at_key at_d when at_inc at_loud =
+    same_leaf t (sustained_timing env.sound_rate env d) (λ n. louder_value loud (wave_value 1024 inc n)) (λ n. louder_value env.loud (wave_value 1024 (increment (key_hz (key_of key env.transpose)) env.sound_rate) n)) (when ∙ ap (sustained_timing env.sound_rate env) at_d)
+    (λ n.
+    (λ i. louder_value (at_loud i) (wave_value 1024 ((at_inc ∙ ap (λ k. increment (key_hz (key_of k env.transpose)) env.sound_rate) at_key) i) n))
+    ∙ louder_twice env.loud (wave_value 1024 (increment (key_hz (key_of key env.transpose)) env.sound_rate) n))
+
+pub hzosc_is : (env : Env) (hz d number len : ℤ) (inc : ℕ) (loud : ℤ) (t : Timing) → number ≡ hz → len ≡ d → t ≡ sustained_timing env.sound_rate env len → inc ≡ increment number env.sound_rate → loud ≡ sat_sample env.loud → leaves.leaf t (leaf_value (HzOsc inc loud)) ≡ hzosc_sound env hz d
+unfolding hzosc_sound leaf_value
+hzosc_is env hz d number len inc loud t at_hz at_d when at_inc at_loud =
+    same_leaf t (sustained_timing env.sound_rate env d) (λ n. louder_value loud (wave_value 4096 inc n)) (λ n. louder_value env.loud (wave_value 4096 (increment hz env.sound_rate) n)) (when ∙ ap (sustained_timing env.sound_rate env) at_d)
+    (λ n.
+    (λ i. louder_value (at_loud i) (wave_value 4096 ((at_inc ∙ ap (λ k. increment k env.sound_rate) at_hz) i) n))
+    ∙ louder_twice env.loud (wave_value 4096 (increment hz env.sound_rate) n))
+
+pub noise_is : (env : Env) (v d number len : ℤ) (x : ℕ) (loud : ℤ) (t : Timing) → number ≡ v → len ≡ d → t ≡ sustained_timing env.sound_rate env len → x ≡ seed_of number → loud ≡ sat_sample env.loud → leaves.leaf t (leaf_value (Noise x loud)) ≡ noise_sound env v d
+unfolding noise_sound leaf_value
+noise_is env v d number len x loud t at_v at_d when at_x at_loud =
+    same_leaf t (sustained_timing env.sound_rate env d) (λ n. louder_value loud (noise_value x n)) (λ n. louder_value env.loud (noise_value (seed_of v) n)) (when ∙ ap (sustained_timing env.sound_rate env) at_d)
+    (λ n. (λ i. louder_value (at_loud i) (noise_value ((at_x ∙ ap seed_of at_v) i) n)) ∙ louder_twice env.loud (noise_value (seed_of v) n))
+
+pub rest_is : (env : Env) (d len : ℤ) (t : Timing) (k : ℤ) → len ≡ d → t ≡ rest_timing env len → k ≡ pos 0 → leaves.leaf t (leaf_value (Const k)) ≡ rest_sound env d
+unfolding rest_sound leaf_value
+rest_is env d len t k at_d when is = same_leaf t (rest_timing env d) (λ n. k) (λ n. pos 0) (when ∙ ap (rest_timing env) at_d) (λ n. is)
+
+-- ---- rates
+
+pub sustained_rate : (rate : Rate) (env : Env) (d : ℤ) (t : Timing) → t ≡ sustained_timing rate env d → t.rate ≡ rate
+unfolding sustained_timing leaf_timing spanning
+sustained_rate rate env d t is = ap (λ (u : Timing). u.rate) is
+
+pub rest_rate : (env : Env) (d : ℤ) (t : Timing) → t ≡ rest_timing env d → t.rate ≡ env.sound_rate
+unfolding rest_timing leaf_timing spanning
+rest_rate env d t is = ap (λ (u : Timing). u.rate) is

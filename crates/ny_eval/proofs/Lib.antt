@@ -1,0 +1,16 @@
+pub mod BelowLemmas
+pub mod WantLemmas
+pub mod FillLemmas
+pub mod DriveLemmas
+pub mod MarkLemmas
+pub mod BuiltLemmas
+pub mod SpentLemmas
+pub mod SoundLemmas
+pub mod MadeLemmas
+pub mod TurnLemmas
+pub mod SumLemmas
+pub mod KindLemmas
+pub mod InnerLemmas
+pub mod LeafLemmas
+pub mod EvalLemmas
+pub mod ChannelLemmas

@@ -1,0 +1,36 @@
+-- The channels of a program as sounds of a heap, at their beginning.
+use Rattle.std.specs.Prelude.{◌≡◌, ℕ, ◌+◌, List, [], ◌∷◌, None}
+use Rattle.ny_num.specs.declared.rate.Rate.{Rate}
+use Rattle.ny_num.specs.Sound as sounds
+use Rattle.ny_num.specs.Sound.{timing_of}
+use Rattle.ny_check.specs.Code.{Code}
+use Rattle.ny_check.specs.Channels.{channels}
+use Rattle.ny_heap.specs.Heap.{HeapState, node_at}
+use Rattle.ny_heap.specs.Reach.{HeapLaws}
+use Rattle.ny_heap.specs.declared.sound.Sound.{Sound}
+use Rattle.ny_eval.specs.Playing.{IsPlaying}
+
+-- the pool and the counts are as they were
+pub record SameCounts {B : Type 0} (old new : HeapState B) : Type 0 where
+  pub pool : new.pool ≡ old.pool
+  pub block : new.block ≡ old.block
+  pub fills : new.fills ≡ old.fills
+  pub peak : new.peak ≡ old.peak
+
+-- there is no unit
+pub record IsEmpty {B : Type 0} (h : HeapState B) : Type 0 where
+  pub laws : HeapLaws h
+  pub none : (v : ℕ) → node_at h v ≡ None
+
+-- No unit of an expression stands higher than the expression's number in the table, and the channel stands on top of it.
+abbrev pub height_of : Code → ℕ
+height_of code = code.play.0 + 2
+
+-- the one channel of a program, of which nothing was read and nothing is filled
+pub record AreOpened {B : Type 0} (code : Code) (rate : Rate) (h : HeapState B) (opened : List Sound) : Type 0 where
+  pub channel : sounds.Sound
+  pub one : channels code rate ≡ channel ∷ []
+  pub sound : Sound
+  pub only : opened ≡ sound ∷ []
+  pub timing : sound.timing ≡ timing_of channel
+  pub plays : IsPlaying h sound channel.samples 0 0 (height_of code)

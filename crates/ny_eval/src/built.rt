@@ -1,0 +1,135 @@
+ghost use Rattle.std.specs.Prelude.{◌≡◌, ◌+◌, ◌<◌, length, map, slice_index_or, IfOk, ℕ};
+ghost use Rattle.std.specs.List.{range_with_len};
+ghost use Rattle.ny_check.specs.declared.node.Node.{Node as NodeOf};
+ghost use Rattle.ny_check.specs.Recursion.{below};
+ghost use Rattle.ny_eval.specs.Built.{alike, sound_of, values_of, built_node, built, is_sound, is_built};
+ghost use Rattle.ny_eval.specs.declared.built.Built.TheVariants.{Unbuilt};
+
+use ny_check::{ExprId, Node, Program};
+use std::alloc::{AllocError, Global};
+
+/// What an expression is, as far as it can be played yet.
+#[derive(Clone, Copy, Debug, PartialEq, Eq)]
+pub(crate) enum Built {
+    /// A number or a test.
+    Value,
+    /// A sound.
+    Sound,
+    /// Something that can't be played yet.
+    Unbuilt,
+}
+
+fn alike(a: Built, b: Built) -> Built
+    ensures { result ≡ alike a b }
+{
+    match a {
+        Built::Value => match b {
+            Built::Value => Built::Value,
+            _ => Built::Unbuilt,
+        },
+        Built::Sound => match b {
+            Built::Sound => Built::Sound,
+            _ => Built::Unbuilt,
+        },
+        Built::Unbuilt => Built::Unbuilt,
+    }
+}
+
+fn values_of(a: Built, made: Built) -> Built
+    ensures { result ≡ values_of a made }
+{
+    match a {
+        Built::Value => made,
+        _ => Built::Unbuilt,
+    }
+}
+
+fn sound_of(a: Built) -> Built
+    ensures { result ≡ sound_of a }
+{
+    match a {
+        Built::Sound => Built::Sound,
+        _ => Built::Unbuilt,
+    }
+}
+
+// What is known of a node of the table.
+fn known_of(known: &[Built], e: ExprId) -> Built
+    ensures { result ≡ slice_index_or known.now e.0 Unbuilt }
+{
+    match known.get(e.0 as usize) {
+        Some(built) => *built,
+        None => Built::Unbuilt,
+    }
+}
+
+// What a node is, of what the nodes before it are.
+fn built_node(node: &Node, known: &[Built]) -> Built
+    ensures { result ≡ built_node node.now (λ n. slice_index_or known.now n Unbuilt) }
+{
+    match node {
+        Node::Number(_) => Built::Value,
+        Node::Global(e) | Node::Div(e, _) | Node::Neg(e) | Node::Not(e) => {
+            values_of(known_of(known, *e), Built::Value)
+        }
+        Node::Add(a, b) => alike(known_of(known, *a), known_of(known, *b)),
+        Node::Sub(a, b)
+        | Node::Mul(a, b)
+        | Node::Max(a, b)
+        | Node::Min(a, b)
+        | Node::Compare(_, a, b)
+        | Node::And(a, b)
+        | Node::Or(a, b) => values_of(
+            known_of(known, *a),
+            values_of(known_of(known, *b), Built::Value),
+        ),
+        Node::If(c, a, b) => values_of(
+            known_of(known, *c),
+            alike(known_of(known, *a), known_of(known, *b)),
+        ),
+        Node::Const(a, d) | Node::Osc(a, d) | Node::HzOsc(a, d) | Node::Noise(a, d) => values_of(
+            known_of(known, *a),
+            values_of(known_of(known, *d), Built::Sound),
+        ),
+        Node::Rest(d) => values_of(known_of(known, *d), Built::Sound),
+        Node::At(k, e)
+        | Node::Stretch(k, e)
+        | Node::Loud(k, e)
+        | Node::Sustain(k, e)
+        | Node::Transpose(k, e) => { values_of(known_of(known, *k), sound_of(known_of(known, *e))) }
+        Node::Warp(_, e) | Node::ControlRate(_, e) => sound_of(known_of(known, *e)),
+        _ => Built::Unbuilt,
+    }
+}
+
+// What each of the nodes before this one is.
+fn built_before(alloc: Global, p: &Program, e: ExprId) -> Result<Vec<Built>, AllocError>
+    requires { e.0 < length p.now.nodes }
+    ensures { IfOk result (λ known. known.items ≡ map (built p.now) (range_with_len 0 e.0)) }
+{
+    let mut known = Vec::with_capacity(alloc, e.0 as usize)?;
+    for n in 0..e.0 {
+        let built = built_node(p.node(ExprId(n)), known.as_slice());
+        known.push(built)?;
+    }
+    Ok(known)
+}
+
+fn is_sound(built: Built) -> bool
+    ensures { result ≡ is_sound built }
+{
+    matches!(built, Built::Sound)
+}
+
+/// Whether a program can be played yet (`docs/LANGUAGE.md`, "What can be played today").
+///
+/// # Errors
+/// `AllocError` where memory is missing.
+#[tactic(auto, using(crate::proofs::BuiltLemmas::one_more), unfolding(crate::specs::Built::is_built))]
+pub fn is_built(alloc: Global, p: &Program) -> Result<bool, AllocError>
+    ensures { IfOk result (λ b. b ≡ is_built p.now) }
+{
+    let play = p.play();
+    let known = built_before(alloc, p, play)?;
+    Ok(is_sound(built_node(p.node(play), known.as_slice())))
+}

@@ -1,0 +1,18 @@
+//! Evaluation: a program into a heap of units, and the fills that a block needs.
+//!
+//! An evaluated sound stands for the whole sound of the strict meaning, and computes its samples only
+//! when they are wanted. The rules stand in `docs/DEFINITIONS.md`, "Evaluation" and "The engine".
+#![tactic(auto)]
+
+mod built;
+mod channels;
+mod expression;
+mod inner;
+mod leaf;
+mod values;
+mod walk;
+
+pub use built::is_built;
+pub use channels::eval_channels;
+pub use expression::eval;
+pub use walk::drive;

@@ -1,0 +1,4 @@
+pub mod Combs
+pub mod Filterings
+pub mod Fillings
+pub mod Products

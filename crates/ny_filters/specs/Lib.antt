@@ -1,0 +1,4 @@
+pub mod Filtering
+pub mod Kept
+pub mod Sizes
+pub mod Stages

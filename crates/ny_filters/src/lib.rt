@@ -1,0 +1,17 @@
+//! Filters, slice by slice: each goes on from what it keeps of the samples before.
+//!
+//! The rules stand in `docs/DEFINITIONS.md`, "Filters" and "Units".
+#![tactic(auto)]
+
+mod biquad;
+mod comb;
+mod exact;
+mod filter;
+mod one_pole;
+mod recent;
+mod stage;
+mod unit;
+mod width;
+
+pub use filter::Filter;
+pub use unit::FilterUnit;
