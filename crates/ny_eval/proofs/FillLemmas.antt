@@ -1,8 +1,8 @@
 -- A fill leaves alone what stands higher than its unit.
-use Rattle.std.proofs.Common.{◌≡◌, ◌≢◌, inl, inr, ℕ, zero, suc, ◌+◌, ◌≤◌, Bool, true, false, cond, nat_lt, List, [], ◌∷◌, ◌++◌, map, get_or, slice_get, slice_index, Option, None, Some, sum, refl, sym, ap, subst, ◌∙◌, arith, ℤ}
+use Rattle.std.proofs.Common.{◌≡◌, ◌≢◌, inl, inr, ℕ, zero, suc, ◌+◌, ◌≤◌, Bool, true, false, cond, nat_lt, List, [], ◌∷◌, ◌++◌, map, get_or, slice_get, slice_index, Option, None, Some, sum, refl, sym, ap, subst, ◌∙◌, arith}
 use Rattle.std.proofs.lemmas.Bool.{cases_eq}
 use Rattle.std.specs.List.{fold}
-use Rattle.ny_heap.specs.Heap.{Reader, Waiting, Node, HeapState, node_at, input_at, blocks_of, taken_after}
+use Rattle.ny_heap.specs.Heap.{Reader, Waiting, Memory, Node, HeapState, node_at, input_at, blocks_of, taken_after}
 use Rattle.ny_heap.specs.Reach.{Uses, Read, Hold, ReadOutside, LeadsIn, IsReachable, HeapLaws, IsTrimmed}
 use Rattle.ny_heap.specs.Steps.{Fills, filled_node, moved}
 use Rattle.ny_eval.specs.Below.{IsRank, IsHeldAbove, Continues, Drives}
@@ -34,14 +34,14 @@ mapped_of f of [] i r e = cc
 mapped_of f of (o ∷ os) zero r e = of o r e
 mapped_of f of (o ∷ os) (suc i) r e = mapped_of f of os i r e
 
-filled_input : {B : Type 0} (block : ℕ) (memory : List ℤ) (x : Node B) (i : ℕ) (r : Reader) → input_at (filled_node block memory x) i ≡ Some r → (s : Reader) × (input_at x i ≡ Some s) × (s.node ≡ r.node)
+filled_input : {B : Type 0} (block : ℕ) (memory : Memory) (x : Node B) (i : ℕ) (r : Reader) → input_at (filled_node block memory x) i ≡ Some r → (s : Reader) × (input_at x i ≡ Some s) × (s.node ≡ r.node)
 filled_input {B} block memory x i r e = by_open (nat_lt (x.filled + 1) (blocks_of block x.timing.len)) e
   where
     by_open : (b : Bool) → get_or (map (cond b (moved block x (x.filled + 1)) (λ r. None)) x.inputs) i None ≡ Some r → (s : Reader) × (input_at x i ≡ Some s) × (s.node ≡ r.node)
     by_open true p = mapped_of (moved block x (x.filled + 1)) (moved_of block (x.filled + 1) x) x.inputs i r p
     by_open false p = mapped_of (λ r. None) (λ o s q. cc) x.inputs i r p
 
-filled_waiting : {B : Type 0} (block : ℕ) (memory : List ℤ) (x : Node B) (i : ℕ) (p : Waiting B) → slice_get (filled_node block memory x).waiting i ≡ Some p → slice_get x.waiting i ≡ Some p
+filled_waiting : {B : Type 0} (block : ℕ) (memory : Memory) (x : Node B) (i : ℕ) (p : Waiting B) → slice_get (filled_node block memory x).waiting i ≡ Some p → slice_get x.waiting i ≡ Some p
 filled_waiting block memory x i p e = by_open (nat_lt (x.filled + 1) (blocks_of block x.timing.len)) e
   where
     by_open : (b : Bool) → slice_get (cond b x.waiting []) i ≡ Some p → slice_get x.waiting i ≡ Some p

@@ -1,5 +1,5 @@
 -- A leaf as a unit.
-use Rattle.std.proofs.Common.{◌≡◌, ℕ, zero, suc, ◌+◌, ◌-◌, ◌≤◌, List, [], ◌∷◌, map, refl, sym, ap, subst, ◌∙◌, arith, ℤ, pos, neg_ℤ, ◌≤ℤ◌}
+use Rattle.std.proofs.Common.{◌≡◌, ℕ, zero, suc, ◌+◌, ◌-◌, ◌<◌, ◌≤◌, List, [], ◌∷◌, map, refl, sym, ap, subst, ◌∙◌, arith, ℤ, pos, neg_ℤ, ◌≤ℤ◌}
 use Rattle.std.proofs.lemmas.Int.{ints, int_max_is, int_min_is}
 use Rattle.std.specs.List.{range_with_len}
 use Rattle.std.specs.Int.{int_min, int_max}
@@ -22,9 +22,9 @@ use Rattle.ny_heap.specs.Steps.{IsMadeOf, Makes, MakesMeaning, without_sounds}
 use Rattle.ny_heap.specs.declared.make.Make.TheVariants.{Leaf}
 use Rattle.ny_heap.specs.declared.sound.Sound.{Sound}
 use Rattle.ny_eval.specs.Turns.{Turns, IsAsBefore}
-use Rattle.ny_eval.proofs.MadeLemmas.{made_turns, nothing_left}
+use Rattle.ny_eval.proofs.MadeLemmas.{spending, made_comes, given_up, nothing_left}
 use Rattle.ny_eval.proofs.SoundLemmas.{timing_of-sound_of}
-use Rattle.ny_eval.proofs.TurnLemmas.{came_none, hears_none}
+use Rattle.ny_eval.proofs.TurnLemmas.{came_none, came_turns}
 
 -- ---- samples counted from the start
 
@@ -47,20 +47,20 @@ leaf_timing_is t f = sym (timing_of-sound_of t (λ m. f (m - t.start))) ∙ ap t
 
 -- ---- the unit
 
-pub leaf_made : (l : LeafOf) (xs : List Sound) (t : Timing) → xs ≡ [] → IsLeaf l → Reaches l t.len → IsTiming t → IsMadeOf (Leaf l) xs t
-leaf_made l xs t none is reaches bounds = subst (λ ys. IsMadeOf (Leaf l) ys t) (sym none) (record { count = refl; bounds = bounds; rates = λ k d within. absurd (omega (arith, within)); heard = λ some. (is, reaches) })
+pub leaf_made : (l : LeafOf) (xs : List Sound) (t : Timing) → xs ≡ [] → (0 < t.len → IsLeaf l × Reaches l t.len) → IsTiming t → IsMadeOf (Leaf l) xs t
+leaf_made l xs t none heard bounds = subst (λ ys. IsMadeOf (Leaf l) ys t) (sym none) (record { count = refl; bounds = bounds; rates = λ k d within. absurd (omega (arith, within)); heard = heard })
 
 pub leaf_turns : {B : Type 0} (old new : HeapState B) (l : LeafOf) (t : Timing) (xs : List Sound) (s : Sound) (height : ℕ) → xs ≡ [] → HeapLaws old → HeapLaws new → IsTiming t → Makes old new (Made (Leaf l)) t xs [] xs s → MakesMeaning old new (Made (Leaf l)) t xs [] s → Turns old new s height (leaves.leaf t (leaf_value l))
 leaf_turns old new l t xs s height none laws laws_new bounds makes meaning =
-    made_turns old old new (Made (Leaf l)) t [] s height (leaves.leaf t (leaf_value l)) (came_none old height laws) laws laws_new bounds
-    (subst (λ ys. Makes old new (Made (Leaf l)) t ys [] ys s) none makes)
+    came_turns old new s (leaves.leaf t (leaf_value l)) (height + 1) height (made_comes old old new (Made (Leaf l)) t [] [] s height (height + 1) (leaves.leaf t (leaf_value l)) (spending old old [] [] (height + 1) (came_none old (height + 1) laws)) tt laws_new bounds
+    (subst (λ ys. Makes old new (Made (Leaf l)) t ys [] ys s) none makes) (omega arith)
     (subst (λ ys. MakesMeaning old new (Made (Leaf l)) t ys [] s) none meaning)
     (leaf_timing_is t (leaf_value l))
-    (λ part w means. (hears_none part old w means, leaf_is t (leaf_value l)))
+    (λ part w are. leaf_is t (leaf_value l)))
 
 pub leaf_refused : {B : Type 0} (old new : HeapState B) (xs : List Sound) → xs ≡ [] → HeapLaws old → HeapLaws new → IsTrimmed (without_sounds old xs) new → KeepsMeaning old new → IsAsBefore old new
 leaf_refused old new xs none laws laws_new trimmed keeps =
-    nothing_left old old new [] 0 (came_none old 0 laws) laws_new (subst (λ ys. IsTrimmed (without_sounds old ys) new) none trimmed) (λ part w means. record { later = w; means = keeps part w means; extends = λ v x at. refl })
+    nothing_left old new 0 (given_up old old new [] [] 0 (came_none old 0 laws) laws_new (subst (λ ys. IsTrimmed (without_sounds old ys) new) none trimmed) keeps)
 
 -- ---- loudness
 

@@ -1,3 +1,4 @@
+pub mod AnswerLemmas
 pub mod BelowLemmas
 pub mod WantLemmas
 pub mod FillLemmas
@@ -6,11 +7,20 @@ pub mod MarkLemmas
 pub mod BuiltLemmas
 pub mod SpentLemmas
 pub mod SoundLemmas
+pub mod ArrivalLemmas
 pub mod MadeLemmas
 pub mod TurnLemmas
-pub mod SumLemmas
+pub mod UnitLemmas
+pub mod OneLemmas
+pub mod BringLemmas
+pub mod HandLemmas
+pub mod PairLemmas
 pub mod KindLemmas
+pub mod OperandLemmas
 pub mod InnerLemmas
 pub mod LeafLemmas
+pub mod ControlLemmas
+pub mod EnvelopeLemmas
+pub mod ShapeLemmas
 pub mod EvalLemmas
 pub mod ChannelLemmas

@@ -8,7 +8,7 @@ use Rattle.ny_heap.specs.Reach.{ReadOutside}
 use Rattle.ny_heap.specs.Steps.{IsCounted, IsHeldAt, IsHeldSound, AreHeld, changed, without_sound, without_sounds, without_mark}
 use Rattle.ny_heap.specs.declared.sound.Sound.{Sound}
 use Rattle.ny_eval.specs.Opened.{SameCounts}
-use Rattle.ny_eval.specs.Turns.{IsFresh}
+use Rattle.ny_eval.specs.Turns.{IsFresh, Arrival, ReadByOne, AreHere, sounds_in}
 use Rattle.ny_eval.proofs.BelowLemmas.{some_same, same_at}
 use Rattle.ny_eval.proofs.MarkLemmas.{Alike, Alike-none, Alike-more, changed_same, changed_other, mark_counts}
 
@@ -139,10 +139,6 @@ fresh_kept {B} old new s block kept fresh = record {
 pub fresh_after : {B : Type 0} (h : HeapState B) (a b : Sound) → IsFresh h a → ((n : ℕ) → list_of a ≡ Some n → list_of b ≡ Some n → ⊥) → IsFresh (without_sound h b) a
 fresh_after h a b first apart = fresh_kept h (without_sound h b) a (spent_block h b) (λ n x is at. spent_other h b n x (apart n is) at) first
 
--- both can be spent together
-pub held_both : {B : Type 0} (h : HeapState B) (a b : Sound) → IsFresh h a → IsFresh h b → ((n : ℕ) → list_of a ≡ Some n → list_of b ≡ Some n → ⊥) → AreHeld h (a ∷ b ∷ [])
-held_both h a b first second apart = (first.begins, (fresh_after h a b first apart).held, (second.begins, second.held, tt))
-
 -- once a sound is spent, nobody else reads its list, and each other unit that is read is as it was
 pub spent_quiet : {B : Type 0} (h : HeapState B) (s : Sound) (v : ℕ) (y : Node B) → 0 < h.block → IsFresh h s → node_at (without_sound h s) v ≡ Some y → 0 < sum y.outside → (node_at h v ≡ Some y) × (list_of s ≡ Some v → ⊥)
 spent_quiet {B} h s v y some fresh at marked = by_list (list_of s) refl at
@@ -165,3 +161,31 @@ spent_quiet {B} h s v y some fresh at marked = by_list (list_of s) refl at
             let first : stands_in h.block x.unit.timing.len (place_of s) ≡ 0 = ap (λ p. stands_in h.block x.unit.timing.len p) fresh.begins ∙ stands_first h.block x.unit.timing.len some long in
             let now : without_mark (stands_in h.block x.unit.timing.len (place_of s)) x.unit ≡ y = same_at (node_at (changed h (Some n) (λ x. without_mark (stands_in h.block x.timing.len (place_of s)) x)) n) _ _ (changed_same h n (λ x. without_mark (stands_in h.block x.timing.len (place_of s)) x) x.unit x.there) (ap (node_at (changed h (Some n) (λ x. without_mark (stands_in h.block x.timing.len (place_of s)) x))) (sym same) ∙ there) in
             ap (λ (z : Node B). sum z.outside) (sym now) ∙ (λ i. sum (slice_set (x.marks i) (first i) (slice_index (x.marks i) (first i) - 1)))
+
+-- ---- several sounds that are spent
+
+-- a unit that none of them reads stays as it was
+pub spent_others : {B : Type 0} (h : HeapState B) (cs : List Arrival) (v : ℕ) (x : Node B) → (ReadByOne cs v → ⊥) → node_at h v ≡ Some x → node_at (without_sounds h (sounds_in cs)) v ≡ Some x
+spent_others h [] v x other at = at
+spent_others h (c ∷ cs) v x other at = spent_other (without_sounds h (sounds_in cs)) c.sound v x (λ is. other (inl is)) (spent_others h cs v x (λ read. other (inr read)) at)
+
+-- a sound stays fresh while others of different lists are spent
+pub fresh_spent : {B : Type 0} (h : HeapState B) (cs : List Arrival) (s : Sound) → IsFresh h s → ((n : ℕ) → list_of s ≡ Some n → ReadByOne cs n → ⊥) → IsFresh (without_sounds h (sounds_in cs)) s
+fresh_spent h cs s fresh apart = fresh_kept h (without_sounds h (sounds_in cs)) s (spent_counts h (sounds_in cs)).block (λ n x is at. spent_others h cs n x (apart n is) at) fresh
+
+-- they can be spent together
+pub held_all : {B : Type 0} (h : HeapState B) (cs : List Arrival) → AreHere h cs → AreHeld h (sounds_in cs)
+held_all h [] here = tt
+held_all h (c ∷ cs) here = (here.0.fresh.begins, (fresh_spent h cs c.sound here.0.fresh here.0.apart).held, held_all h cs here.1)
+
+-- then nobody else reads their lists, and each other unit that is read is as it was
+pub spent_all_quiet : {B : Type 0} (h : HeapState B) (cs : List Arrival) (v : ℕ) (y : Node B) → 0 < h.block → AreHere h cs → node_at (without_sounds h (sounds_in cs)) v ≡ Some y → 0 < sum y.outside → (node_at h v ≡ Some y) × (ReadByOne cs v → ⊥)
+spent_all_quiet h [] v y some here at marked = (at, λ read. absurd read)
+spent_all_quiet h (c ∷ cs) v y some here at marked =
+    let last = spent_quiet (without_sounds h (sounds_in cs)) c.sound v y (omega (arith, (spent_counts h (sounds_in cs)).block, some)) (fresh_spent h cs c.sound here.0.fresh here.0.apart) at marked in
+    let first = spent_all_quiet h cs v y some here.1 last.0 marked in
+    (first.0, by_reader last.1 first.1)
+  where
+    by_reader : (list_of c.sound ≡ Some v → ⊥) → (ReadByOne cs v → ⊥) → ReadByOne (c ∷ cs) v → ⊥
+    by_reader not_first not_others (inl is) = not_first is
+    by_reader not_first not_others (inr read) = not_others read

@@ -1,59 +1,98 @@
--- Which programs can be played yet: those of numbers, tests, leaves at the sound rate, their sums, and changes of the
--- environment. They play one sound.
-use Rattle.std.specs.Prelude.{ℕ, Bool, true, false}
+-- Which expressions can be played yet, and whether they are numbers, tests or sounds: all but blocks, calls of functions, bare names
+-- of sounds, `cue`, the four combinations of parts, and `vector`.
+use Rattle.std.specs.Prelude.{ℕ, Bool, true, false, List, [], ◌∷◌}
 use Rattle.ny_check.specs.declared.node.Node.{Node}
 use Rattle.ny_check.specs.declared.node.Node.TheVariants as node
+use Rattle.ny_check.specs.declared.node.ExprId.{ExprId}
 use Rattle.ny_check.specs.Code.{Code, node_at}
 use Rattle.ny_check.specs.Recursion.{by_smaller}
 use Rattle.ny_eval.specs.declared.built.Built.{Built}
-use Rattle.ny_eval.specs.declared.built.Built.TheVariants.{Value, Sound, Unbuilt}
+use Rattle.ny_eval.specs.declared.built.Built.TheVariants.{Value, Test, Sound, Unbuilt}
 
--- two values are a value, and two sounds are a sound
+-- two numbers are a number, two tests a test, and two sounds a sound
 abbrev pub alike : Built → Built → Built
 alike Value Value = Value
+alike Test Test = Test
 alike Sound Sound = Sound
 alike _ _ = Unbuilt
 
--- this, where it is made of a value
+-- two numbers make a number; a sound and a number in either order, and two sounds, make a sound
+abbrev pub joined : Built → Built → Built
+joined Value Value = Value
+joined Value Sound = Sound
+joined Sound Value = Sound
+joined Sound Sound = Sound
+joined _ _ = Unbuilt
+
+-- a number or a sound with the other sign
+abbrev pub negated : Built → Built
+negated Value = Value
+negated Sound = Sound
+negated _ = Unbuilt
+
+-- this, where it is made of a number
 abbrev pub values_of : Built → Built → Built
 values_of Value made = made
 values_of _ made = Unbuilt
+
+-- this, where it is made of numbers
+abbrev pub all_values : List ExprId → (ℕ → Built) → Built → Built
+all_values [] rec made = made
+all_values (e ∷ es) rec made = values_of (rec e.0) (all_values es rec made)
+
+-- this, where it is made of a test
+abbrev pub tests_of : Built → Built → Built
+tests_of Test made = made
+tests_of _ made = Unbuilt
 
 -- a sound of a sound
 abbrev pub sound_of : Built → Built
 sound_of Sound = Sound
 sound_of _ = Unbuilt
 
--- What a node is, of what the nodes before it are. A sound is a leaf of values at the sound rate, a sum of two sounds, a sound in a
--- changed environment, or the choice of one of two sounds.
+-- What makes a sound, of what the nodes before it are: a leaf of numbers, a sound without signs or filtered, or one in a changed
+-- environment.
+abbrev pub built_sound : Node → (ℕ → Built) → Built
+built_sound (node.Const v d) rec = values_of (rec v.0) (values_of (rec d.0) Sound)
+built_sound (node.Osc key d) rec = values_of (rec key.0) (values_of (rec d.0) Sound)
+built_sound (node.HzOsc hz d) rec = values_of (rec hz.0) (values_of (rec d.0) Sound)
+built_sound (node.Lfo hz d) rec = values_of (rec hz.0) (values_of (rec d.0) Sound)
+built_sound (node.Noise v d) rec = values_of (rec v.0) (values_of (rec d.0) Sound)
+built_sound (node.Rest d) rec = values_of (rec d.0) Sound
+built_sound (node.Ramp d) rec = values_of (rec d.0) Sound
+built_sound (node.Pwl es) rec = all_values es rec Sound
+built_sound (node.Abs e) rec = sound_of (rec e.0)
+built_sound (node.OnePole e a) rec = values_of (rec a.0) (sound_of (rec e.0))
+built_sound (node.Biquad e cs) rec = all_values cs rec (sound_of (rec e.0))
+built_sound (node.Comb e d gain) rec = values_of (rec d.0) (values_of (rec gain.0) (sound_of (rec e.0)))
+built_sound (node.At t e) rec = values_of (rec t.0) (sound_of (rec e.0))
+built_sound (node.Stretch k e) rec = values_of (rec k.0) (sound_of (rec e.0))
+built_sound (node.Loud k e) rec = values_of (rec k.0) (sound_of (rec e.0))
+built_sound (node.Sustain k e) rec = values_of (rec k.0) (sound_of (rec e.0))
+built_sound (node.Transpose k e) rec = values_of (rec k.0) (sound_of (rec e.0))
+built_sound (node.Warp m e) rec = sound_of (rec e.0)
+built_sound (node.SoundRate r e) rec = sound_of (rec e.0)
+built_sound (node.ControlRate r e) rec = sound_of (rec e.0)
+built_sound _ rec = Unbuilt
+
+-- What a node is, of what the nodes before it are: a number, a test, an operation on two operands, one of them with the other sign,
+-- the choice of one of two, or what makes a sound.
 abbrev pub built_node : Node → (ℕ → Built) → Built
 built_node (node.Number v) rec = Value
 built_node (node.Global e) rec = values_of (rec e.0) Value
-built_node (node.Add a b) rec = alike (rec a.0) (rec b.0)
-built_node (node.Sub a b) rec = values_of (rec a.0) (values_of (rec b.0) Value)
-built_node (node.Mul a b) rec = values_of (rec a.0) (values_of (rec b.0) Value)
-built_node (node.Max a b) rec = values_of (rec a.0) (values_of (rec b.0) Value)
-built_node (node.Min a b) rec = values_of (rec a.0) (values_of (rec b.0) Value)
+built_node (node.Add a b) rec = joined (rec a.0) (rec b.0)
+built_node (node.Sub a b) rec = joined (rec a.0) (rec b.0)
+built_node (node.Mul a b) rec = joined (rec a.0) (rec b.0)
+built_node (node.Max a b) rec = joined (rec a.0) (rec b.0)
+built_node (node.Min a b) rec = joined (rec a.0) (rec b.0)
 built_node (node.Div a v) rec = values_of (rec a.0) Value
-built_node (node.Neg a) rec = values_of (rec a.0) Value
-built_node (node.Compare r a b) rec = values_of (rec a.0) (values_of (rec b.0) Value)
-built_node (node.And a b) rec = values_of (rec a.0) (values_of (rec b.0) Value)
-built_node (node.Or a b) rec = values_of (rec a.0) (values_of (rec b.0) Value)
-built_node (node.Not a) rec = values_of (rec a.0) Value
-built_node (node.If c a b) rec = values_of (rec c.0) (alike (rec a.0) (rec b.0))
-built_node (node.Const v d) rec = values_of (rec v.0) (values_of (rec d.0) Sound)
-built_node (node.Osc key d) rec = values_of (rec key.0) (values_of (rec d.0) Sound)
-built_node (node.HzOsc hz d) rec = values_of (rec hz.0) (values_of (rec d.0) Sound)
-built_node (node.Noise v d) rec = values_of (rec v.0) (values_of (rec d.0) Sound)
-built_node (node.Rest d) rec = values_of (rec d.0) Sound
-built_node (node.At t e) rec = values_of (rec t.0) (sound_of (rec e.0))
-built_node (node.Stretch k e) rec = values_of (rec k.0) (sound_of (rec e.0))
-built_node (node.Loud k e) rec = values_of (rec k.0) (sound_of (rec e.0))
-built_node (node.Sustain k e) rec = values_of (rec k.0) (sound_of (rec e.0))
-built_node (node.Transpose k e) rec = values_of (rec k.0) (sound_of (rec e.0))
-built_node (node.Warp m e) rec = sound_of (rec e.0)
-built_node (node.ControlRate r e) rec = sound_of (rec e.0)
-built_node _ rec = Unbuilt
+built_node (node.Neg a) rec = negated (rec a.0)
+built_node (node.Compare r a b) rec = values_of (rec a.0) (values_of (rec b.0) Test)
+built_node (node.And a b) rec = tests_of (rec a.0) (tests_of (rec b.0) Test)
+built_node (node.Or a b) rec = tests_of (rec a.0) (tests_of (rec b.0) Test)
+built_node (node.Not a) rec = tests_of (rec a.0) Test
+built_node (node.If c a b) rec = tests_of (rec c.0) (alike (rec a.0) (rec b.0))
+built_node at rec = built_sound at rec
 
 -- what an expression is, by recursion on the nodes before it
 unfoldable pub built : Code → ℕ → Built

@@ -17,12 +17,12 @@ IsOuter (node.Loud k e) = Unit {0}
 IsOuter (node.Sustain k e) = Unit {0}
 IsOuter (node.Transpose k e) = Unit {0}
 IsOuter (node.Warp m e) = Unit {0}
+IsOuter (node.SoundRate r e) = Unit {0}
 IsOuter (node.ControlRate r e) = Unit {0}
 IsOuter _ = ⊥
 
--- an expression that means what a smaller one does, which can be played, in another environment of the same sound rate
+-- an expression that means what a smaller one does, which can be played, in another environment
 pub record IsInner (code : Code) (e : ℕ) (env : Env) (part : ℕ) (changed : Env) : Type 0 where
   pub smaller : part < e
   pub sound : built code part ≡ Sound
   pub means : meaning code e env [] ≡ meaning code part changed []
-  pub rate : changed.sound_rate ≡ env.sound_rate

@@ -1,5 +1,5 @@
 -- The channels of a program as sounds of a heap, at their beginning.
-use Rattle.std.specs.Prelude.{◌≡◌, ℕ, ◌+◌, List, [], ◌∷◌, None}
+use Rattle.std.specs.Prelude.{◌≡◌, ℕ, ◌+◌, ◌*◌, List, [], ◌∷◌, None}
 use Rattle.ny_num.specs.declared.rate.Rate.{Rate}
 use Rattle.ny_num.specs.Sound as sounds
 use Rattle.ny_num.specs.Sound.{timing_of}
@@ -22,9 +22,10 @@ pub record IsEmpty {B : Type 0} (h : HeapState B) : Type 0 where
   pub laws : HeapLaws h
   pub none : (v : ℕ) → node_at h v ≡ None
 
--- No unit of an expression stands higher than the expression's number in the table, and the channel stands on top of it.
+-- The unit of the expression at place e of the table stands no higher than 2 * e + 1, since one of an operand that was brought to
+-- another rate may stand between it and the next. So may one between what is played and the channel, which stands on top.
 abbrev pub height_of : Code → ℕ
-height_of code = code.play.0 + 2
+height_of code = 2 * code.play.0 + 4
 
 -- the one channel of a program, of which nothing was read and nothing is filled
 pub record AreOpened {B : Type 0} (code : Code) (rate : Rate) (h : HeapState B) (opened : List Sound) : Type 0 where

@@ -2,7 +2,7 @@ ghost use Rattle.std.specs.Prelude.{◌≡◌, ◌+◌, ◌<◌, length, map, sl
 ghost use Rattle.std.specs.List.{range_with_len};
 ghost use Rattle.ny_check.specs.declared.node.Node.{Node as NodeOf};
 ghost use Rattle.ny_check.specs.Recursion.{below};
-ghost use Rattle.ny_eval.specs.Built.{alike, sound_of, values_of, built_node, built, is_sound, is_built};
+ghost use Rattle.ny_eval.specs.Built.{alike, joined, negated, sound_of, values_of, all_values, tests_of, built_sound, built_node, built, is_sound, is_built};
 ghost use Rattle.ny_eval.specs.declared.built.Built.TheVariants.{Unbuilt};
 
 use ny_check::{ExprId, Node, Program};
@@ -11,8 +11,10 @@ use std::alloc::{AllocError, Global};
 /// What an expression is, as far as it can be played yet.
 #[derive(Clone, Copy, Debug, PartialEq, Eq)]
 pub(crate) enum Built {
-    /// A number or a test.
+    /// A number.
     Value,
+    /// A test.
+    Test,
     /// A sound.
     Sound,
     /// Something that can't be played yet.
@@ -27,6 +29,10 @@ fn alike(a: Built, b: Built) -> Built
             Built::Value => Built::Value,
             _ => Built::Unbuilt,
         },
+        Built::Test => match b {
+            Built::Test => Built::Test,
+            _ => Built::Unbuilt,
+        },
         Built::Sound => match b {
             Built::Sound => Built::Sound,
             _ => Built::Unbuilt,
@@ -35,11 +41,44 @@ fn alike(a: Built, b: Built) -> Built
     }
 }
 
+fn joined(a: Built, b: Built) -> Built
+    ensures { result ≡ joined a b }
+{
+    match a {
+        Built::Value => negated(b),
+        Built::Sound => match b {
+            Built::Value => Built::Sound,
+            Built::Sound => Built::Sound,
+            _ => Built::Unbuilt,
+        },
+        _ => Built::Unbuilt,
+    }
+}
+
+fn negated(a: Built) -> Built
+    ensures { result ≡ negated a }
+{
+    match a {
+        Built::Value => Built::Value,
+        Built::Sound => Built::Sound,
+        _ => Built::Unbuilt,
+    }
+}
+
 fn values_of(a: Built, made: Built) -> Built
     ensures { result ≡ values_of a made }
 {
     match a {
         Built::Value => made,
+        _ => Built::Unbuilt,
+    }
+}
+
+fn tests_of(a: Built, made: Built) -> Built
+    ensures { result ≡ tests_of a made }
+{
+    match a {
+        Built::Test => made,
         _ => Built::Unbuilt,
     }
 }
@@ -63,42 +102,77 @@ fn known_of(known: &[Built], e: ExprId) -> Built
     }
 }
 
+// What is made of the numbers that these nodes are.
+fn all_values(es: &[ExprId], known: &[Built], made: Built) -> Built
+    ensures { result ≡ all_values es.now (λ n. slice_index_or known.now n Unbuilt) made }
+{
+    let mut found = made;
+    for e in es {
+        found = values_of(known_of(known, *e), found);
+    }
+    found
+}
+
+// What a node that makes a sound is, of what the nodes before it are.
+fn built_sound(node: &Node, known: &[Built]) -> Built
+    ensures { result ≡ built_sound node.now (λ n. slice_index_or known.now n Unbuilt) }
+{
+    match node {
+        Node::Const(a, d)
+        | Node::Osc(a, d)
+        | Node::HzOsc(a, d)
+        | Node::Lfo(a, d)
+        | Node::Noise(a, d) => values_of(
+            known_of(known, *a),
+            values_of(known_of(known, *d), Built::Sound),
+        ),
+        Node::Rest(d) | Node::Ramp(d) => values_of(known_of(known, *d), Built::Sound),
+        Node::Pwl(es) => all_values(es.as_slice(), known, Built::Sound),
+        Node::Abs(e) | Node::Warp(_, e) | Node::SoundRate(_, e) | Node::ControlRate(_, e) => {
+            sound_of(known_of(known, *e))
+        }
+        Node::Biquad(e, numbers) => all_values(&numbers[..], known, sound_of(known_of(known, *e))),
+        Node::Comb(e, delay, gain) => values_of(
+            known_of(known, *delay),
+            values_of(known_of(known, *gain), sound_of(known_of(known, *e))),
+        ),
+        Node::OnePole(e, k)
+        | Node::At(k, e)
+        | Node::Stretch(k, e)
+        | Node::Loud(k, e)
+        | Node::Sustain(k, e)
+        | Node::Transpose(k, e) => values_of(known_of(known, *k), sound_of(known_of(known, *e))),
+        _ => Built::Unbuilt,
+    }
+}
+
 // What a node is, of what the nodes before it are.
 fn built_node(node: &Node, known: &[Built]) -> Built
     ensures { result ≡ built_node node.now (λ n. slice_index_or known.now n Unbuilt) }
 {
     match node {
         Node::Number(_) => Built::Value,
-        Node::Global(e) | Node::Div(e, _) | Node::Neg(e) | Node::Not(e) => {
-            values_of(known_of(known, *e), Built::Value)
+        Node::Global(e) | Node::Div(e, _) => values_of(known_of(known, *e), Built::Value),
+        Node::Neg(e) => negated(known_of(known, *e)),
+        Node::Not(e) => tests_of(known_of(known, *e), Built::Test),
+        Node::Add(a, b) | Node::Sub(a, b) | Node::Mul(a, b) | Node::Max(a, b) | Node::Min(a, b) => {
+            joined(known_of(known, *a), known_of(known, *b))
         }
-        Node::Add(a, b) => alike(known_of(known, *a), known_of(known, *b)),
-        Node::Sub(a, b)
-        | Node::Mul(a, b)
-        | Node::Max(a, b)
-        | Node::Min(a, b)
-        | Node::Compare(_, a, b)
-        | Node::And(a, b)
-        | Node::Or(a, b) => values_of(
+        Node::Compare(_, a, b) => values_of(
             known_of(known, *a),
-            values_of(known_of(known, *b), Built::Value),
+            values_of(known_of(known, *b), Built::Test),
         ),
-        Node::If(c, a, b) => values_of(
+        Node::And(a, b) | Node::Or(a, b) => {
+            tests_of(
+                known_of(known, *a),
+                tests_of(known_of(known, *b), Built::Test),
+            )
+        }
+        Node::If(c, a, b) => tests_of(
             known_of(known, *c),
             alike(known_of(known, *a), known_of(known, *b)),
         ),
-        Node::Const(a, d) | Node::Osc(a, d) | Node::HzOsc(a, d) | Node::Noise(a, d) => values_of(
-            known_of(known, *a),
-            values_of(known_of(known, *d), Built::Sound),
-        ),
-        Node::Rest(d) => values_of(known_of(known, *d), Built::Sound),
-        Node::At(k, e)
-        | Node::Stretch(k, e)
-        | Node::Loud(k, e)
-        | Node::Sustain(k, e)
-        | Node::Transpose(k, e) => { values_of(known_of(known, *k), sound_of(known_of(known, *e))) }
-        Node::Warp(_, e) | Node::ControlRate(_, e) => sound_of(known_of(known, *e)),
-        _ => Built::Unbuilt,
+        _ => built_sound(node, known),
     }
 }
 

@@ -3,6 +3,7 @@ ghost use Rattle.ny_eval.specs.Built.{is_built};
 ghost use Rattle.ny_eval.specs.Opened.{SameCounts, IsEmpty, AreOpened};
 
 use crate::expression::eval;
+use crate::unit::brought;
 use ny_check::Program;
 use ny_heap::{Heap, Sound};
 use ny_num::Rate;
@@ -29,7 +30,8 @@ pub fn eval_channels<B>(
     let mut parts = Vec::with_capacity(alloc, 1)?;
     let mut channels = Vec::with_capacity(alloc, 1)?;
     let env = Env::open(alloc, rate)?;
-    let sound = eval(alloc, p, p.play(), env, heap)?;
+    let part = eval(alloc, p, p.play(), env, heap)?;
+    let sound = brought(alloc, part, rate, heap)?;
     let timing = channel_timing(&sound.timing);
     parts.push_reserved(sound);
     channels.push_reserved(heap.make_mix(alloc, parts, Vec::new(alloc), timing, true)?);

@@ -1,21 +1,26 @@
-ghost use Rattle.std.specs.Prelude.{◌≡◌, ℕ, ◌+◌, ◌<◌, ◌≤◌, max, length, [], ◌∷◌, IfOk, OnErr, vec_capacity};
-ghost use Rattle.ny_num.specs.Numbers.{sample_add};
+ghost use Rattle.std.specs.Prelude.{◌≡◌, ℕ, ◌+◌, ◌*◌, ◌<◌, max, length, [], IfOk, OnErr};
 ghost use Rattle.ny_num.specs.Pointwise.{combined};
 ghost use Rattle.ny_num.specs.Resampling.{resampled};
-ghost use Rattle.ny_num.specs.Sound as sounds;
-ghost use Rattle.ny_num.specs.Sound.{sum_timing};
+ghost use Rattle.ny_kernels.specs.Operations.{operation};
+ghost use Rattle.ny_check.specs.Code.{node_at};
 ghost use Rattle.ny_check.specs.Meaning.{meaning};
-ghost use Rattle.ny_heap.specs.Heap.{HeapState};
-ghost use Rattle.ny_heap.specs.Steps.{AreHeld};
-ghost use Rattle.ny_eval.specs.Built.{built};
+ghost use Rattle.ny_heap.specs.Steps.{both_timing};
+ghost use Rattle.ny_eval.specs.Built.{built, joined};
 ghost use Rattle.ny_eval.specs.declared.built.Built.TheVariants.{Sound as SoundKind};
-ghost use Rattle.ny_eval.specs.Turns.{Turns, IsAsBefore, Both};
+ghost use Rattle.ny_eval.specs.Made.{made_with, IsSingle};
+ghost use Rattle.ny_eval.specs.Pairs.{operand, paired};
+ghost use Rattle.ny_eval.specs.Shapes.{shape_of, shaped};
+ghost use Rattle.ny_eval.specs.Turns.{Turns, IsAsBefore};
 
+use crate::control::{envelope, lfo, ramp};
+use crate::filter::{make_of, shape_of};
 use crate::inner::inner;
 use crate::leaf::{constant, hz_oscillator, lawful, noise, oscillator, rest};
+use crate::unit::{brought_single, single, together};
+use crate::values::sample;
 use ny_check::{ExprId, Node, Program};
 use ny_heap::{Heap, Make, Op, Sound};
-use ny_timing::sum_timing;
+use ny_num::Sample;
 use ny_warp::Env;
 use std::alloc::{AllocError, Global};
 
@@ -34,17 +39,31 @@ pub fn eval<B>(
 ) -> Result<Sound, AllocError>
     requires inside { e.0 < length p.now.nodes }
     requires built { built p.now e.0 ≡ SoundKind }
-    ensures turns { IfOk result (λ s. Turns heap.old heap.new s e.0 (meaning p.now e.0 env [])) }
-    ensures rate { IfOk result (λ s. s.timing.rate ≡ env.sound_rate) }
+    ensures turns { IfOk result (λ s. Turns heap.old heap.new s (2 * e.0 + 1) (meaning p.now e.0 env [])) }
     ensures refused { OnErr result (IsAsBefore heap.old heap.new) }
 {
     match p.node(e) {
-        Node::Add(a, b) => Ok(sum(alloc, p, *a, *b, env, heap)?),
+        Node::Add(a, b) => Ok(pair(alloc, p, Op::Add, *a, *b, env, heap)?),
+        Node::Sub(a, b) => Ok(pair(alloc, p, Op::Sub, *a, *b, env, heap)?),
+        Node::Mul(a, b) => Ok(pair(alloc, p, Op::Mul, *a, *b, env, heap)?),
+        Node::Max(a, b) => Ok(pair(alloc, p, Op::Max, *a, *b, env, heap)?),
+        Node::Min(a, b) => Ok(pair(alloc, p, Op::Min, *a, *b, env, heap)?),
+        Node::Neg(a) => {
+            let make = Make::Pair(Op::Sub, Some(Sample::ZERO), None);
+            Ok(at_sound_rate(alloc, p, make, *a, env, heap)?)
+        }
         Node::Const(value, d) => Ok(constant(alloc, p, *value, *d, &env, heap)?),
         Node::Osc(key, d) => Ok(oscillator(alloc, p, *key, *d, &env, heap)?),
         Node::HzOsc(hz, d) => Ok(hz_oscillator(alloc, p, *hz, *d, &env, heap)?),
         Node::Noise(seed, d) => Ok(noise(alloc, p, *seed, *d, &env, heap)?),
         Node::Rest(d) => Ok(rest(alloc, p, *d, &env, heap)?),
+        Node::Lfo(hz, d) => Ok(lfo(alloc, p, *hz, *d, &env, heap)?),
+        Node::Ramp(d) => Ok(ramp(alloc, p, *d, &env, heap)?),
+        Node::Pwl(parts) => Ok(envelope(alloc, p, e, parts.as_slice(), &env, heap)?),
+        Node::Abs(part) => Ok(filtered(alloc, p, e, *part, env, heap)?),
+        Node::OnePole(part, _) => Ok(filtered(alloc, p, e, *part, env, heap)?),
+        Node::Biquad(part, _) => Ok(filtered(alloc, p, e, *part, env, heap)?),
+        Node::Comb(part, _, _) => Ok(filtered(alloc, p, e, *part, env, heap)?),
         _ => {
             lawful(heap);
             let mut changed = env;
@@ -54,14 +73,80 @@ pub fn eval<B>(
     }
 }
 
-/// The sum of the sounds of two expressions, in an environment.
+/// Two operands by an operation, in an environment: two sounds, or a sound and a number.
 ///
 /// # Errors
 /// `AllocError` where memory is missing. The heap is then as before.
 #[cycle(eval)]
-fn sum<B>(
+fn pair<B>(
     alloc: Global,
     p: &Program,
+    op: Op,
+    a: ExprId,
+    b: ExprId,
+    env: Env,
+    heap: &mut Heap<B>,
+) -> Result<Sound, AllocError>
+    requires first { a.0 < length p.now.nodes }
+    requires second { b.0 < length p.now.nodes }
+    requires built { joined (built p.now a.0) (built p.now b.0) ≡ SoundKind }
+    ensures turns { IfOk result (λ s. Turns heap.old heap.new s (2 * max a.0 b.0 + 3) (paired op env.sound_rate (operand p.now env a) (operand p.now env b))) }
+    ensures refused { OnErr result (IsAsBefore heap.old heap.new) }
+{
+    lawful(heap);
+    let left = sample(alloc, p, a)?;
+    let right = sample(alloc, p, b)?;
+    match left {
+        Some(k) => {
+            let make = Make::Pair(op, Some(k), None);
+            Ok(at_sound_rate(alloc, p, make, b, env, heap)?)
+        }
+        None => match right {
+            Some(k) => {
+                let make = Make::Pair(op, None, Some(k));
+                Ok(at_sound_rate(alloc, p, make, a, env, heap)?)
+            }
+            None => Ok(both(alloc, p, op, a, b, env, heap)?),
+        },
+    }
+}
+
+/// A unit that computes this of the sound of an expression, in an environment, once that was brought to
+/// the environment's sound rate.
+///
+/// # Errors
+/// `AllocError` where memory is missing. The heap is then as before.
+#[cycle(eval)]
+fn at_sound_rate<B>(
+    alloc: Global,
+    p: &Program,
+    make: Make,
+    e: ExprId,
+    env: Env,
+    heap: &mut Heap<B>,
+) -> Result<Sound, AllocError>
+    requires inside { e.0 < length p.now.nodes }
+    requires built { built p.now e.0 ≡ SoundKind }
+    requires made { IsSingle make }
+    ensures turns { IfOk result (λ s. Turns heap.old heap.new s (2 * e.0 + 3) (made_with make (resampled env.sound_rate (meaning p.now e.0 env [])))) }
+    ensures refused { OnErr result (IsAsBefore heap.old heap.new) }
+{
+    lawful(heap);
+    let rate = env.sound_rate;
+    let sound = eval(alloc, p, e, env, heap)?;
+    Ok(brought_single(alloc, make, sound, rate, heap)?)
+}
+
+/// The sounds of two expressions, in an environment, by an operation, each brought to the environment's
+/// sound rate.
+///
+/// # Errors
+/// `AllocError` where memory is missing. The heap is then as before.
+#[cycle(eval)]
+fn both<B>(
+    alloc: Global,
+    p: &Program,
+    op: Op,
     a: ExprId,
     b: ExprId,
     env: Env,
@@ -71,15 +156,14 @@ fn sum<B>(
     requires second { b.0 < length p.now.nodes }
     requires built_first { built p.now a.0 ≡ SoundKind }
     requires built_second { built p.now b.0 ≡ SoundKind }
-    ensures turns { IfOk result (λ s. Turns heap.old heap.new s (max a.0 b.0 + 1) (combined sum_timing sample_add (resampled env.sound_rate (meaning p.now a.0 env [])) (resampled env.sound_rate (meaning p.now b.0 env [])))) }
-    ensures rate { IfOk result (λ s. s.timing.rate ≡ env.sound_rate) }
+    ensures turns { IfOk result (λ s. Turns heap.old heap.new s (2 * max a.0 b.0 + 3) (combined (both_timing op) (operation op) (resampled env.sound_rate (meaning p.now a.0 env [])) (resampled env.sound_rate (meaning p.now b.0 env [])))) }
     ensures refused { OnErr result (IsAsBefore heap.old heap.new) }
 {
     lawful(heap);
-    let operands = Vec::with_capacity(alloc, 2)?;
+    let rate = env.sound_rate;
     let first = eval(alloc, p, a, env.copy(alloc)?, heap)?;
     match eval(alloc, p, b, env, heap) {
-        Ok(second) => Ok(add(alloc, first, second, operands, heap)?),
+        Ok(second) => Ok(together(alloc, op, first, second, rate, heap)?),
         Err(fault) => {
             heap.release(first);
             Err(fault)
@@ -87,28 +171,28 @@ fn sum<B>(
     }
 }
 
-/// The sum of two sounds of one rate, which came one after the other. `operands` is empty and has room
-/// for both, so that nothing can fail before they are spent.
+/// What an expression makes of the sound of its part, in an environment, at that sound's own rate.
 ///
 /// # Errors
-/// `AllocError` where memory is missing. Both sounds are spent nevertheless.
-fn add<B>(
+/// `AllocError` where memory is missing. The heap is then as before.
+#[cycle(eval)]
+fn filtered<B>(
     alloc: Global,
-    first: Sound,
-    second: Sound,
-    mut operands: Vec<Sound>,
+    p: &Program,
+    e: ExprId,
+    part: ExprId,
+    env: Env,
     heap: &mut Heap<B>,
 ) -> Result<Sound, AllocError>
-    requires room { 2 ≤ vec_capacity operands }
-    requires empty { operands.items ≡ [] }
-    requires held { AreHeld heap.old (first ∷ second ∷ []) }
-    requires rates { second.timing.rate ≡ first.timing.rate }
-    ensures turns { IfOk result (λ s. (before : HeapState B) (height : ℕ) (m n : sounds.Sound) → Both before heap.old first second height m n → Turns before heap.new s height (combined sum_timing sample_add m n)) }
-    ensures rate { IfOk result (λ s. s.timing.rate ≡ first.timing.rate) }
-    ensures refused { OnErr result ((before : HeapState B) (height : ℕ) (m n : sounds.Sound) → Both before heap.old first second height m n → IsAsBefore before heap.new) }
+    requires inside { e.0 < length p.now.nodes }
+    requires part { part.0 < length p.now.nodes }
+    requires built { built p.now part.0 ≡ SoundKind }
+    ensures turns { IfOk result (λ s. Turns heap.old heap.new s (2 * part.0 + 2) (shaped (shape_of p.now (node_at p.now e.0)) (meaning p.now part.0 env []))) }
+    ensures refused { OnErr result (IsAsBefore heap.old heap.new) }
 {
-    let timing = sum_timing(&first.timing, &second.timing);
-    operands.push_reserved(first);
-    operands.push_reserved(second);
-    heap.make(alloc, Make::Pair(Op::Add, None, None), operands, timing)
+    lawful(heap);
+    let shape = shape_of(alloc, p, e)?;
+    let sound = eval(alloc, p, part, env, heap)?;
+    let make = make_of(shape, sound.timing.rate);
+    Ok(single(alloc, make, sound, heap)?)
 }

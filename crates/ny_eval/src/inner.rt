@@ -51,6 +51,10 @@ pub(crate) fn inner(
             env.warp(alloc, map)?;
             Ok(*part)
         }
+        Node::SoundRate(rate, part) => {
+            env.sound_rate(*rate);
+            Ok(*part)
+        }
         Node::ControlRate(rate, part) => {
             env.control_rate(*rate);
             Ok(*part)

@@ -23,18 +23,18 @@ pub(crate) fn lawful<B>(heap: &Heap<B>)
     let _free = heap.free();
 }
 
-/// A leaf that is heard as `timing` says, as a sound of the heap.
+/// A leaf that is heard as `timing` says, as a sound of the heap. Where it has no sample, whatever it
+/// is.
 ///
 /// # Errors
 /// `AllocError` where memory is missing. The heap is then as before.
-fn play<B>(
+pub(crate) fn play<B>(
     alloc: Global,
     played: Leaf,
     timing: Timing,
     heap: &mut Heap<B>,
 ) -> Result<Sound, AllocError>
-    requires leaf { IsLeaf played }
-    requires reaches { Reaches played timing.len }
+    requires heard { 0 < timing.len → IsLeaf played × Reaches played timing.len }
     requires bounds { IsTiming timing }
     ensures turns { IfOk result (λ s. (height : ℕ) → Turns heap.old heap.new s height (leaf timing (leaf_value played))) }
     ensures rate { IfOk result (λ s. s.timing.rate ≡ timing.rate) }

@@ -6,9 +6,12 @@
 
 mod built;
 mod channels;
+mod control;
 mod expression;
+mod filter;
 mod inner;
 mod leaf;
+mod unit;
 mod values;
 mod walk;
 

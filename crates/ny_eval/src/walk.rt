@@ -55,5 +55,5 @@ pub fn drive<B>(p: &Program, heap: &mut Heap<B>, u: UnitId) -> Result<(), FillFa
     ensures comes { ComesFrom heap.old heap.new }
     ensures keeps { KeepsMeaning heap.old heap.new }
 {
-    drive_within(heap, u, u64::from(p.play().0) + 2)
+    drive_within(heap, u, 2 * u64::from(p.play().0) + 4)
 }

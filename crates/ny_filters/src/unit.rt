@@ -1,7 +1,7 @@
 ghost use Rattle.std.specs.Prelude.{◌≡◌, ℕ, ◌+◌, ◌<◌, ◌≤◌, ℤ, List, Option, Some, None, IsSome, length, min, take, drop, option_copied, IfOk, IfErr};
 ghost use Rattle.std.specs.Option.{ForSome, option_map_or};
 ghost use Rattle.ny_list.specs.Reading.{Shows};
-ghost use Rattle.ny_filters.specs.Filtering.{IsFilter, IsComb, silent, filtered, IsAfter, CanFilter};
+ghost use Rattle.ny_filters.specs.Filtering.{IsFilter, IsComb, silent, filtered, outputs_after, memory_after, IsAfter, CanFilter};
 
 use crate::filter::Filter;
 use crate::stage::Stage;
@@ -58,6 +58,8 @@ impl FilterUnit {
         ensures filter { self.new.filter ≡ self.old.filter }
         ensures reader { self.new.reader ≡ self.old.reader }
         ensures samples { ForSome self.old.reader (λ c. (xs : List ℤ) → Shows reads.now c.list xs → IsAfter self.old xs from → out.new ≡ take (length out.old) (drop from (filtered self.old.filter xs))) }
+        ensures rest { ForSome self.old.reader (λ c. (xs : List ℤ) → Shows reads.now c.list xs → out.new ≡ outputs_after self.old.filter self.old.memory (take (length out.old) (drop from xs))) }
+        ensures keeps { ForSome self.old.reader (λ c. (xs : List ℤ) → Shows reads.now c.list xs → self.new.memory ≡ memory_after self.old.filter self.old.memory (take (length out.old) (drop from xs))) }
         ensures after { ForSome self.old.reader (λ c. (xs : List ℤ) → Shows reads.now c.list xs → IsAfter self.old xs from → IsAfter self.new xs (from + length out.old)) }
     {
         if let Some(c) = &self.reader {

@@ -1,199 +1,326 @@
--- How a unit gets one block more.
-use Rattle.std.proofs.Common.{◌≡◌, ◌≢◌, ◌⊎◌, inl, inr, ℕ, zero, suc, ◌+◌, ◌*◌, ◌^◌, ◌<◌, ◌≤◌, min, cond, nat_eq, List, [], ◌∷◌, ◌++◌, length, get_or, map, Option, None, Some, is_some, IsSome, refl, sym, ap, subst, ◌∙◌, arith, length-set, length-append, ℤ}
-use Rattle.std.proofs.lemmas.List.{get_or-set_same, get_or-set_other, get_or_append_left, get_or_push}
-use Rattle.std.proofs.lemmas.Bool.{cases_lt, true≢false, eq-eqb, ne_eqb}
-use Rattle.std.specs.VecDeque.{deque_capacity}
-use Rattle.ny_pool.specs.declared.pool.BlockId.{BlockId}
-use Rattle.ny_pool.specs.Blocks.{Blocks, IsTaken, in_block, with_block, Takes}
-use Rattle.ny_pool.proofs.PlaceLemmas.{count-kept}
-use Rattle.ny_heap.specs.declared.sound.Sound.{Sound}
-use Rattle.ny_heap.specs.declared.sound.Reading.{Reading}
+-- A unit has one block more.
+use Rattle.std.proofs.Common.{◌≡◌, ◌≢◌, inl, inr, ℕ, zero, suc, ◌+◌, ◌-◌, ◌*◌, ◌<◌, ◌≤◌, min, nat_lt, Bool, true, false, List, [], ◌∷◌, ◌++◌, length, map, get_or, set, Option, None, Some, IsSome, is_some, count_by, refl, sym, ap, subst, ◌∙◌, arith, ℤ, length-append}
+use Rattle.std.specs.List.{sum_by, sum}
+use Rattle.std.specs.Option.{option_map, option_map_or}
+use Rattle.std.proofs.lemmas.List.{get_or-set_same, get_or-set_other}
+use Rattle.std.proofs.lemmas.List.Sums.{sum_by-set, sum_by-append}
+use Rattle.std.proofs.lemmas.Bool.{cases_eq, cases_lt, lt-ltb}
+use Rattle.ny_list.specs.Store.{ListState, CursorState, list_at, cursors_of, least}
+use Rattle.ny_list.specs.Steps.{settled, filled_with}
+use Rattle.ny_list.proofs.IndexLemmas.{same_some, none_some, tab_same}
+use Rattle.ny_units.specs.Inputs.{start_of}
 use Rattle.ny_heap.specs.declared.table.Unit.{Unit as UnitData}
 use Rattle.ny_heap.specs.declared.table.Table.{Table}
-use Rattle.ny_heap.specs.Heap.{Reader, stands_in, blocks_of, taken_after}
-use Rattle.ny_heap.specs.Steps.{reader_of}
-use Rattle.ny_heap.specs.Given.{id_in, no_block}
-use Rattle.ny_heap.specs.Table.{unit_at, input_of, kind_of, IsUnit, IsTable, with_unit, ReadsAsBefore, Replaces, IsReady, Appends, Loads, stepped, reach_of, taken_by_reach}
-use Rattle.ny_heap.proofs.TableLemmas.{same_some, none_some}
-use Rattle.ny_heap.proofs.ReplaceLemmas.{at_changed, at_other, IsTable-replaced}
-use Rattle.ny_heap.proofs.NeedLemmas.{taken_at, taken_rises, stands_rises}
+use Rattle.ny_heap.specs.Heap.{Reader, is_reader, taken_after, blocks_of}
+use Rattle.ny_heap.specs.Work.{kind_of, inputs_in, cursor_at, need_in, HasGiven}
+use Rattle.ny_heap.specs.Table.{unit_at, own_in, own_of, mark_in, len_of, input_of, readers_of, timing_at, IsTable, IsUnit, IsInput, IsRead, IsThere, computed_in, computed_next_in, is_open_in, lacks_in, lacking_from, or_else}
+use Rattle.ny_heap.specs.View.{filled_in}
+use Rattle.ny_heap.specs.Filling.{CanFill, Computes, Appends, Settling}
+use Rattle.ny_heap.proofs.TableLemmas.{place_within}
+use Rattle.ny_heap.proofs.ListLemmas.{list_within, list_here, list_other, mark_is, len_is, blank_len}
+use Rattle.ny_heap.proofs.CountLemmas.{is_some_of}
+use Rattle.ny_heap.proofs.ViewLemmas.{filled_is}
+use Rattle.ny_heap.proofs.FirstLemmas.{need_is}
+use Rattle.ny_heap.proofs.MovesLemmas.{same_kind, same_inputs, same_source, same_reader, sides_on, begins_on, brings_on, hears_on, given_on}
 
-pub loaded : (old p : Blocks ℤ) (b : ℕ) (samples : List ℤ) → Takes old p b → Loads old (with_block p b (Some samples)) b samples
-loaded old p b samples takes = record {
-  len = ap (λ (q : Blocks ℤ). q.len) takes.after;
-  size = length-set p.blocks b (Some samples) ∙ size;
-  was_free = takes.was_free;
-  here = get_or-set_same p.blocks b (Some samples) None (omega (arith, size, takes.within));
-  others = λ k ne. get_or-set_other p.blocks b k (Some samples) None ne ∙ ap (λ (q : Blocks ℤ). in_block q k) takes.after ∙ get_or-set_other old.blocks b k (Some takes.items) None ne;
-  free = omega (arith, count-kept p.blocks b samples some, takes.free);
-}
-  where
-    size : length p.blocks ≡ length old.blocks
-    size = ap (λ (q : Blocks ℤ). length q.blocks) takes.after ∙ length-set old.blocks b (Some takes.items)
+-- ---- what no input lacks
 
-    some : IsSome (get_or p.blocks b None)
-    some = ap is_some (ap (λ (q : Blocks ℤ). in_block q b) takes.after ∙ get_or-set_same old.blocks b (Some takes.items) None takes.within)
+lacks_none : (o p : Option ℕ) → or_else o p ≡ None → (o ≡ None) × (p ≡ None)
+lacks_none None p e = (refl, e)
+lacks_none (Some n) p e = absurd (none_some (sym e))
 
-one_stepped : (reach : ℕ) (s : Sound) (o : Option Reading) → s.reading ≡ o → (r : Reader) → reader_of (stepped reach s) ≡ Some r → (q : Reader) × (reader_of s ≡ Some q) × (r ≡ record q { place = taken_by_reach reach q.timing })
-one_stepped reach s None e r h = absurd (none_some (sym (ap (λ (p : Option Reading). reader_of (stepped reach (record s { reading = p }))) e) ∙ h))
-one_stepped reach s (Some p) e r h = (
-  record { node = p.unit; place = p.place; timing = s.timing },
-  ap (λ (q : Option Reading). reader_of (record s { reading = q })) e,
-  same_some (sym h ∙ ap (λ (q : Option Reading). reader_of (stepped reach (record s { reading = q }))) e),
-)
+none_lacks : (t : Table) (x : UnitData) (done i n k : ℕ) → lacking_from t x done i n ≡ None → i ≤ k → k < i + n → lacks_in t x done (cursor_at x.work k) k ≡ None
+none_lacks t x done i zero k none from to = absurd (omega (arith, from, to))
+none_lacks t x done i (suc n) k none from to =
+    let both = lacks_none (lacks_in t x done (cursor_at x.work i) i) (lacking_from t x done (i + 1) n) none in
+    elim (cases_eq k i) [
+      | inl e ↦ subst (λ j. lacks_in t x done (cursor_at x.work j) j ≡ None) (sym e) both.0
+      | inr ne ↦ none_lacks t x done (i + 1) n k both.1 (omega (arith, from, ne)) (omega (arith, to))
+    ]
 
--- a reader once it was moved is one before, at its new place
-pub stepped_reader : (reach : ℕ) (ss : List Sound) (i : ℕ) (r : Reader) → get_or (map reader_of (map (stepped reach) ss)) i None ≡ Some r → (q : Reader) × (get_or (map reader_of ss) i None ≡ Some q) × (r ≡ record q { place = taken_by_reach reach q.timing })
-stepped_reader reach [] i r e = absurd (none_some e)
-stepped_reader reach (s ∷ ss) zero r e = one_stepped reach s s.reading refl r e
-stepped_reader reach (s ∷ ss) (suc i) r e = stepped_reader reach ss i r e
+not_lacks : (t : Table) (x : UnitData) (done k : ℕ) (c : CursorState) → lacks_in t x done (Some c) k ≡ None → need_in x.work k done ≤ computed_in t c.list
+not_lacks t x done k c none = elim (cases_lt (computed_in t c.list) (need_in x.work k done)) [
+  | inl less ↦ absurd (none_some (sym none ∙ ap (λ b. Rattle.std.proofs.Common.cond b (Some c.list) None) (lt-ltb (computed_in t c.list) (need_in x.work k done) less)))
+  | inr far ↦ far
+]
 
-stepped_one : (reach : ℕ) (s : Sound) (o : Option Reading) → s.reading ≡ o → (q : Reader) → reader_of s ≡ Some q → (r : Reader) × (reader_of (stepped reach s) ≡ Some r) × (r.node ≡ q.node)
-stepped_one reach s None e q h = absurd (none_some (sym (ap (λ (p : Option Reading). reader_of (record s { reading = p })) e) ∙ h))
-stepped_one reach s (Some p) e q h = (
-  record { node = p.unit; place = taken_by_reach reach s.timing; timing = s.timing },
-  ap (λ (k : Option Reading). reader_of (stepped reach (record s { reading = k }))) e,
-  ap (λ (k : Reader). k.node) (same_some (sym (ap (λ (k : Option Reading). reader_of (record s { reading = k })) e) ∙ h)),
-)
+-- what each input of a unit that can fill needs is computed
+pub far_enough : (t : Table) (u : ℕ) (f : CanFill t u) (k : ℕ) (c : CursorState) → k < inputs_in f.there.unit.work → cursor_at f.there.unit.work k ≡ Some c → need_in f.there.unit.work k (computed_next_in t u) ≤ computed_in t c.list
+far_enough t u f k c inside is =
+    not_lacks t f.there.unit (computed_next_in t u) k c
+    (ap (λ o. lacks_in t f.there.unit (computed_next_in t u) o k) (sym is) ∙ none_lacks t f.there.unit (computed_next_in t u) 0 (inputs_in f.there.unit.work) k f.computed (omega arith) (omega (arith, inside)))
 
--- a reader is moved and reads the same list
-pub reader_stepped : (reach : ℕ) (ss : List Sound) (i : ℕ) (q : Reader) → get_or (map reader_of ss) i None ≡ Some q → (r : Reader) × (get_or (map reader_of (map (stepped reach) ss)) i None ≡ Some r) × (r.node ≡ q.node)
-reader_stepped reach [] i q e = absurd (none_some e)
-reader_stepped reach (s ∷ ss) zero q e = stepped_one reach s s.reading refl q e
-reader_stepped reach (s ∷ ss) (suc i) q e = reader_stepped reach ss i q e
+-- ---- the table then
 
-module _ (t : Table) (table : IsTable t) (u : ℕ) (x y : UnitData) (b : BlockId) (samples : List ℤ) (pool : Blocks ℤ) (ready : IsReady t u) (there : unit_at t u ≡ Some x) (loads : Loads t.pool pool b.0 samples) (is : y ≡ record x { filled = x.filled + 1; inputs = y.inputs; kept = y.kept }) (inputs : y.inputs.items ≡ map (stepped (reach_of t.block x.timing (x.filled + 1))) x.inputs.items) (kept : y.kept.items ≡ x.kept.items ++ b ∷ []) (room : deque_capacity y.kept ≡ deque_capacity x.kept) where
-  unit : IsUnit t x
-  unit = table.units u x there
+module _ (old mid new : Table) (u : ℕ) (out : List ℤ) (f : CanFill old u) (p : Computes old mid u out) (a : Appends mid new u out) where
+  abbrev pub x : UnitData
+  x = p.unit
 
-  timing : y.timing ≡ x.timing
-  timing = ap (λ (q : UnitData). q.timing) is
+  abbrev pub y : UnitData
+  y = record p.unit { work = p.work }
 
-  filled : y.filled ≡ x.filled + 1
-  filled = ap (λ (q : UnitData). q.filled) is
+  abbrev l : ListState
+  l = a.list
 
-  ready_is : ready.unit ≡ x
-  ready_is = same_some (sym ready.there ∙ there)
+  abbrev pub longer : ListState
+  longer = settled (filled_with mid.store.block out a.list)
 
-  -- a block that was taken is not b
-  not_b : (k : ℕ) → IsTaken t.pool k → k ≢ b.0
-  not_b k taken e = true≢false (sym taken ∙ ap is_some (ap (in_block t.pool) e ∙ loads.was_free))
+  pub same_block : new.block ≡ old.block
+  same_block = a.block ∙ p.reworks.block
 
-  id_before : (j : ℕ) → j < length x.kept.items → id_in y.kept.items j ≡ id_in x.kept.items j
-  id_before j h = ap (λ bs. id_in bs j) kept ∙ ap (λ (q : BlockId). q.0) (get_or_append_left x.kept.items (b ∷ []) no_block j h)
+  pub unit_here : unit_at new u ≡ Some y
+  unit_here = ap (λ us. get_or us u None) (a.units ∙ p.reworks.units) ∙ get_or-set_same old.units.items u (Some y) None (place_within old.units.items u x p.was)
 
-  id_last : (j : ℕ) → j ≡ length x.kept.items → id_in y.kept.items j ≡ b.0
-  id_last j e = ap (λ bs. id_in bs j) kept ∙ ap (λ (q : BlockId). q.0) (get_or_push x.kept.items b no_block j (sym e))
+  pub unit_else : (w : ℕ) → w ≢ u → unit_at new w ≡ unit_at old w
+  unit_else w ne = ap (λ us. get_or us w None) (a.units ∙ p.reworks.units) ∙ get_or-set_other old.units.items u w (Some y) None ne
 
-  long : length y.kept.items ≡ length x.kept.items + 1
-  long = ap length kept ∙ length-append x.kept.items (b ∷ [])
+  pub listed : list_at old.store u ≡ Some l
+  listed = ap (λ s. list_at s u) (sym p.reworks.store) ∙ a.was
 
-  split : (j : ℕ) → j < length y.kept.items → (j < length x.kept.items) ⊎ (j ≡ length x.kept.items)
-  split j h = elim (cases_lt j (length x.kept.items)) [ inl less ↦ inl less | inr more ↦ inr (omega (arith, h, more, long)) ]
+  pub longer_here : list_at new.store u ≡ Some longer
+  longer_here = ap (λ s. list_at s u) a.store ∙ list_here mid.store u (Some longer) (list_within mid.store u l a.was)
 
-  still_held : (w j : ℕ) (z : UnitData) → unit_at t w ≡ Some z → j < length z.kept.items → in_block pool (id_in z.kept.items j) ≡ in_block t.pool (id_in z.kept.items j)
-  still_held w j z at h = loads.others (id_in z.kept.items j) (not_b (id_in z.kept.items j) ((table.units w z at).taken j h))
+  pub list_else : (w : ℕ) → w ≢ u → list_at new.store w ≡ list_at old.store w
+  list_else w ne = ap (λ s. list_at s w) a.store ∙ list_other mid.store u w (Some longer) ne ∙ ap (λ s. list_at s w) p.reworks.store
 
-  taken : (j : ℕ) → (j < length x.kept.items) ⊎ (j ≡ length x.kept.items) → IsTaken pool (id_in y.kept.items j)
-  taken j (inl h) = subst (λ k. IsTaken pool k) (sym (id_before j h)) (subst IsSome (sym (still_held u j x there h)) (unit.taken j h))
-  taken j (inr e) = subst (λ k. IsTaken pool k) (sym (id_last j e)) (ap is_some loads.here)
+  pub longer_len : length longer.values ≡ length l.values + 1
+  longer_len = blank_len (least (l.marks ++ 0 ∷ [])) (filled_with mid.store.block out l).values ∙ length-append l.values _
 
-  new_owner : ℕ → ℕ
-  new_owner k = cond (nat_eq k b.0) u (table.owner k)
+  -- each list is there still, with as many blocks, or one more
+  list_to : (w : ℕ) (k : ListState) → list_at old.store w ≡ Some k → (n : ListState) × (list_at new.store w ≡ Some n) × (n.len ≡ k.len) × (length k.values ≤ length n.values)
+  list_to w k is = elim (cases_eq w u) [
+    | inl e ↦
+        let same : k ≡ l = same_some (sym is ∙ ap (list_at old.store) e ∙ listed) in
+        (longer, ap (list_at new.store) e ∙ longer_here, ap (λ (z : ListState). z.len) (sym same), omega (arith, longer_len, ap (λ (z : ListState). length z.values) same))
+    | inr ne ↦ (k, list_else w ne ∙ is, refl, omega arith)
+  ]
 
-  new_number : ℕ → ℕ
-  new_number k = cond (nat_eq k b.0) x.filled (table.number k)
+  list_back : (w : ℕ) (n : ListState) → list_at new.store w ≡ Some n → (k : ListState) × (list_at old.store w ≡ Some k)
+  list_back w n is = elim (cases_eq w u) [
+    | inl e ↦ (l, ap (list_at old.store) e ∙ listed)
+    | inr ne ↦ (n, sym (list_else w ne) ∙ is)
+  ]
 
-  owner_else : (k : ℕ) → k ≢ b.0 → (new_owner k ≡ table.owner k) × (new_number k ≡ table.number k)
-  unfolding new_owner new_number
-  owner_else k ne = (ap (λ c. cond c u (table.owner k)) (ne_eqb k b.0 ne), ap (λ c. cond c x.filled (table.number k)) (ne_eqb k b.0 ne))
+  -- ---- who stands where
 
-  owner_here : (new_owner b.0 ≡ u) × (new_number b.0 ≡ x.filled)
-  unfolding new_owner new_number
-  owner_here = (ap (λ c. cond c u (table.owner b.0)) (eq-eqb b.0 b.0 refl), ap (λ c. cond c x.filled (table.number b.0)) (eq-eqb b.0 b.0 refl))
+  pub same_len : (w : ℕ) → len_of new.store w ≡ len_of old.store w
+  same_len w = elim (cases_eq w u) [
+    | inl e ↦ ap (len_of new.store) e ∙ len_is new.store u longer longer_here ∙ sym (len_is old.store u l listed) ∙ ap (len_of old.store) (sym e)
+    | inr ne ↦ ap (λ (o : Option ListState). option_map_or {U = ℕ} (λ k. k.len) o 0) (list_else w ne)
+  ]
 
-  owned_before : (w j : ℕ) (z : UnitData) → unit_at t w ≡ Some z → j < length z.kept.items → (new_owner (id_in z.kept.items j) ≡ w) × (new_number (id_in z.kept.items j) ≡ z.gone + j)
-  owned_before w j z at h =
-      let e = owner_else (id_in z.kept.items j) (not_b (id_in z.kept.items j) ((table.units w z at).taken j h)) in
-      let o = table.owned w j z at h in
-      (e.0 ∙ o.0, e.1 ∙ o.1)
+  more_marks : (marks : List ℕ) (j : ℕ) → get_or (marks ++ 0 ∷ []) j 0 ≡ get_or marks j 0
+  more_marks [] zero = refl
+  more_marks [] (suc j) = refl
+  more_marks (m ∷ ms) zero = refl
+  more_marks (m ∷ ms) (suc j) = more_marks ms j
 
-  owned : (j : ℕ) → (j < length x.kept.items) ⊎ (j ≡ length x.kept.items) → (new_owner (id_in y.kept.items j) ≡ u) × (new_number (id_in y.kept.items j) ≡ y.gone + j)
-  owned j (inl h) = let o = owned_before u j x there h in (ap new_owner (id_before j h) ∙ o.0, omega (arith, ap new_number (id_before j h), o.1, ap (λ (q : UnitData). q.gone) is))
-  owned j (inr e) = (ap new_owner (id_last j e) ∙ owner_here.0, omega (arith, ap new_number (id_last j e), owner_here.1, ap (λ (q : UnitData). q.gone) is, unit.kept))
+  pub same_mark : (w j : ℕ) → mark_in new.store w j ≡ mark_in old.store w j
+  same_mark w j = elim (cases_eq w u) [
+    | inl e ↦ ap (λ v. mark_in new.store v j) e ∙ mark_is new.store u j longer longer_here ∙ more_marks l.marks j ∙ sym (mark_is old.store u j l listed) ∙ ap (λ v. mark_in old.store v j) (sym e)
+    | inr ne ↦ ap (λ (o : Option ListState). option_map_or {U = ℕ} (λ k. get_or k.marks j 0) o 0) (list_else w ne)
+  ]
 
-  moved_reader : (i : ℕ) (r : Reader) → input_of y i ≡ Some r → ReadsAsBefore t x y i r
-  moved_reader i r input =
-      let before = stepped_reader (reach_of t.block x.timing (x.filled + 1)) x.inputs.items i r (ap (λ ss. get_or (map reader_of ss) i None) (sym inputs) ∙ input) in
-      let q = before.0 in
-      let found = table.finds u i x q there before.1 in
-      let need : r.place ≡ taken_after t.block (kind_of x.work) x.timing q.timing (x.filled + 1) = ap (λ (p : Reader). p.place) before.2 ∙ sym (taken_at t.block (kind_of x.work) x.timing q.timing (x.filled + 1) (omega arith)) in
-      let far : r.place ≤ min (found.0.filled * t.block) found.0.timing.len = subst (λ n. n ≤ min (found.0.filled * t.block) found.0.timing.len) (sym need) (subst (λ (z : UnitData). taken_after t.block (kind_of z.work) z.timing q.timing (z.filled + 1) ≤ min (found.0.filled * t.block) found.0.timing.len) ready_is (ready.computed i q found.0 (ap (λ (z : UnitData). input_of z i) ready_is ∙ before.1) found.1)) in
-      record {
-        before = q;
-        was = before.1;
-        node = ap (λ (p : Reader). p.node) before.2;
-        len = ap (λ (p : Reader). p.timing.len) before.2;
-        at_need = need ∙ (λ k. taken_after t.block (kind_of (is_back k).work) (is_back k).timing (ap (λ (p : Reader). p.timing) (sym before.2) k) (sym filled k));
-        computed = λ z at. subst (λ (w : UnitData). r.place ≤ min (w.filled * t.block) w.timing.len) (same_some (sym found.1 ∙ at)) far;
-        gone = λ z at. subst (λ (w : UnitData). w.gone ≤ stands_in t.block w.timing.len r.place) (same_some (sym found.1 ∙ at)) (
-            omega (
-              arith,
-              found.2.gone,
-              stands_rises t.block found.0.timing.len q.place r.place table.positive (omega (arith, need, found.2.at_need, taken_rises t.block (kind_of x.work) x.timing q.timing x.filled)) (omega (arith, far)),
-            )
-            );
-      }
-    where
-      is_back : record x { filled = x.filled + 1; inputs = y.inputs; kept = y.kept } ≡ y
-      is_back = sym is
+  pub same_cursor : (i : ℕ) → cursor_at p.work i ≡ cursor_at x.work i
+  same_cursor i = same_reader x.work p.work (computed_next_in old u) i p.moves
 
-  append_replaces : Replaces t table u x y pool
-  append_replaces = record {
-    len = loads.len;
-    size = loads.size;
-    there = there;
-    timing = timing;
-    filled = omega (arith, filled);
-    blocks = λ w z ne at j h. still_held w j z at h;
-    count = omega (arith, loads.free, long);
-    unit = record {
-      some = omega (arith, ap (λ t. t.len) timing, unit.some);
-      short = omega (arith, ap (λ t. t.len) timing, unit.short);
-      early = omega (arith, ap (λ t. t.start) timing, unit.early);
-      few = subst (λ n. blocks_of t.block n < 2 ^ 32) (sym (ap (λ t. t.len) timing)) unit.few;
-      filled = subst (λ n. y.filled ≤ blocks_of t.block n) (sym (ap (λ t. t.len) timing)) (omega (arith, filled, subst (λ (z : UnitData). z.filled < blocks_of t.block z.timing.len) ready_is ready.opened));
-      kept = omega (arith, long, unit.kept, filled, ap (λ (q : UnitData). q.gone) is);
-      room = subst (λ n. min (length pool.blocks) (blocks_of t.block n) ≤ deque_capacity y.kept) (sym (ap (λ t. t.len) timing)) (omega (arith, loads.size, room, unit.room));
-      taken = λ j h. taken j (split j h);
-      stands = λ j at. let s = unit.stands j (sym (ap (λ (q : UnitData). q.reader) is) ∙ at) in (omega (arith, s.0, ap (λ (q : UnitData). q.gone) is), omega (arith, s.1, filled));
-    };
-    inputs = moved_reader;
-    reader = inl (ap (λ (q : UnitData). q.reader) is);
-    read = λ p i z r at input of.
-        let found = table.finds p i z r at input in
-        let same : found.0 ≡ x = same_some (sym found.1 ∙ ap (unit_at t) of ∙ there) in
-        omega (arith, subst (λ (q : UnitData). q.gone ≤ stands_in t.block q.timing.len r.place) same found.2.gone, ap (λ (q : UnitData). q.gone) is);
-    owner = new_owner;
-    number = new_number;
-    owned = λ j h. owned j (split j h);
-    owned_else = λ w j z ne at h. owned_before w j z at h;
+  pub same_kinds : kind_of p.work ≡ kind_of x.work
+  same_kinds = same_kind x.work p.work (computed_next_in old u) p.moves
+
+  pub same_readers : readers_of y ≡ readers_of x
+  same_readers = tab_same (input_of y) (input_of x) (length x.inputs.items) None (λ i h. ap (option_map {U = Reader} (λ c. record { node = c.list; place = c.place; timing = timing_at x i })) (same_cursor i))
+
+  pub same_own : (w j : ℕ) → own_in new w j ≡ own_in old w j
+  same_own w j =
+      let g = λ (o : Option UnitData). option_map_or {U = ℕ} (own_of old.block (len_of old.store w) w j) o 0 in
+      let here : g (Some y) ≡ g (get_or old.units.items u None) = ap (sum_by (is_reader old.block (len_of old.store w) w j)) same_readers ∙ sym (ap g p.was) in
+      let all : own_in new w j ≡ sum_by g (set old.units.items u (Some y)) =
+      ap (λ b. sum_by (λ (o : Option UnitData). option_map_or {U = ℕ} (own_of b (len_of new.store w) w j) o 0) new.units.items) same_block
+      ∙ ap (λ n. sum_by (λ (o : Option UnitData). option_map_or {U = ℕ} (own_of old.block n w j) o 0) new.units.items) (same_len w)
+      ∙ ap (sum_by g) (a.units ∙ p.reworks.units) in
+      omega (arith, here, all, sum_by-set g old.units.items u (Some y) None (place_within old.units.items u x p.was))
+
+  -- ---- the unit
+
+  table : IsTable old []
+  table = f.heap.table
+
+  was_unit : IsUnit old u x l
+  was_unit = let w = table.units u x p.was in subst (IsUnit old u x) (same_some (sym w.1 ∙ listed)) w.2
+
+  next_in : computed_next_in old u ≡ min (length longer.values * new.block) x.timing.len
+  next_in =
+      ap (λ (o : Option ListState). option_map_or {U = ℕ} (λ k. min ((length k.values + 1) * old.block) k.len) o 0) listed
+      ∙ ap (λ n. min (n * old.block) l.len) (sym longer_len)
+      ∙ ap (λ b. min (length longer.values * b) l.len) (sym same_block)
+      ∙ ap (min (length longer.values * new.block)) was_unit.len
+
+  unit_now : IsUnit new u y longer
+  unit_now = record {
+    end = was_unit.end;
+    len = was_unit.len;
+    some = was_unit.some;
+    early = was_unit.early;
+    count = was_unit.count ∙ sym (same_inputs x.work p.work (computed_next_in old u) p.moves);
+    sides = sides_on x.work p.work (computed_next_in old u) p.moves was_unit.sides;
+    begins = begins_on x.work p.work (computed_next_in old u) x.timing p.moves was_unit.begins;
+    brings = brings_on x.work p.work (computed_next_in old u) x.inputs.items p.moves was_unit.brings;
+    hears = hears_on x.work p.work (computed_next_in old u) x.timing x.inputs.items p.moves was_unit.hears;
+    given = subst (HasGiven p.work x.timing.len) next_in (given_on x.work p.work x.timing.len (min (length l.values * old.block) x.timing.len) (computed_next_in old u) p.moves was_unit.given);
   }
 
-  pub appended : Appends t (with_unit t u y pool) u x.work samples
-  appended = record {
-    same = record { slots = length-set t.units u (Some y); block = refl; pool = loads.size };
-    table = IsTable-replaced t table u x y pool append_replaces;
-    was = x;
-    there = there;
-    now = y;
-    after = at_changed t u x y pool there;
-    is = is;
-    inputs = inputs;
-    last = b;
-    kept = kept;
-    content = loads.here;
-    others = λ w ne. at_other t u x y pool there w ne;
-    blocks = λ w z at j h. still_held w j z at h;
-    free = loads.free;
+  unit_kept : (w : ℕ) (z : UnitData) (k : ListState) → IsUnit old w z k → IsUnit new w z k
+  unit_kept w z k h = record {
+    end = h.end;
+    len = h.len;
+    some = h.some;
+    early = h.early;
+    count = h.count;
+    sides = h.sides;
+    begins = h.begins;
+    brings = h.brings;
+    hears = h.hears;
+    given = subst (λ b. HasGiven z.work z.timing.len (min (length k.values * b) z.timing.len)) (sym same_block) h.given;
   }
+
+  -- a list with more blocks is computed no less far
+  farther : (place len m n b d : ℕ) → place ≤ min (m * b) len → m ≤ n → d ≡ b → place ≤ min (n * d) len
+  farther place len m n b d far more same = omega (arith, far, ap (λ k. n * k) same, Rattle.std.proofs.lemmas.Nat.mul-le m b n b more (omega arith))
+
+  input_kept : (z : UnitData) (i : ℕ) (c : CursorState) (k n : ListState) → n.len ≡ k.len → length k.values ≤ length n.values → IsInput old z i c k → IsInput new z i c n
+  input_kept z i c k n len more h = record {
+    starts = h.starts;
+    sees = h.sees;
+    visible = subst (λ m. c.visible ≤ m) (sym len) h.visible;
+    computed = subst (λ m. c.place ≤ min (length n.values * new.block) m) (sym len) (farther c.place k.len (length k.values) (length n.values) old.block new.block h.computed more same_block);
+  }
+
+  input_now : (i : ℕ) (c : CursorState) (n : ListState) → IsInput new x i c n → IsInput new y i c n
+  input_now i c n h = record { starts = ap start_of (same_source x.work p.work (computed_next_in old u) i p.moves) ∙ h.starts; sees = h.sees; visible = h.visible; computed = h.computed }
+
+  -- an input is one of before
+  input_was : (w i : ℕ) (z : UnitData) (c : CursorState) → unit_at new w ≡ Some z → i < length z.inputs.items → cursor_at z.work i ≡ Some c → (q : UnitData) × (unit_at old w ≡ Some q) × (i < length q.inputs.items) × (cursor_at q.work i ≡ Some c)
+  input_was w i z c at inside cursor = elim (cases_eq w u) [
+    | inl e ↦
+        let same : z ≡ y = same_some (sym at ∙ ap (unit_at new) e ∙ unit_here) in
+        (x, ap (unit_at old) e ∙ p.was, omega (arith, inside, ap (λ (q : UnitData). length q.inputs.items) same), sym (same_cursor i) ∙ ap (λ (q : UnitData). cursor_at q.work i) (sym same) ∙ cursor)
+    | inr ne ↦ (z, sym (unit_else w ne) ∙ at, inside, cursor)
+  ]
+
+  pub IsTable-filled : IsTable new []
+  IsTable-filled = record {
+    store = a.laws;
+    block = ap (λ s. s.block) a.store ∙ ap (λ s. s.block) p.reworks.store ∙ table.block ∙ sym same_block;
+    loose = ap (λ s. count_by is_some s.loose) a.store ∙ ap (λ s. count_by is_some s.loose) p.reworks.store ∙ table.loose;
+    units = λ w z at. elim (cases_eq w u) [
+      | inl e ↦
+          let same : z ≡ y = same_some (sym at ∙ ap (unit_at new) e ∙ unit_here) in
+          (longer, ap (list_at new.store) e ∙ longer_here, subst (λ v. IsUnit new v z longer) (sym e) (subst (λ q. IsUnit new u q longer) (sym same) unit_now))
+      | inr ne ↦ let k = table.units w z (sym (unit_else w ne) ∙ at) in (k.0, list_else w ne ∙ k.1, unit_kept w z k.0 k.2)
+    ];
+    lists = λ w some. elim (cases_eq w u) [
+      | inl e ↦ is_some_of _ y (ap (unit_at new) e ∙ unit_here)
+      | inr ne ↦ subst IsSome (sym (unit_else w ne)) (table.lists w (subst IsSome (list_else w ne) some))
+    ];
+    inputs = λ w i z k c at at_list inside cursor.
+        let q = input_was w i z c at inside cursor in
+        let b = list_back w k at_list in
+        let h = table.inputs w i q.0 b.0 c q.1 b.1 q.2 q.3 in
+        let n = list_to c.list h.0 h.1 in (
+          n.0,
+          n.1,
+          elim (cases_eq w u) [
+            | inl e ↦
+                let now : z ≡ y = same_some (sym at ∙ ap (unit_at new) e ∙ unit_here) in
+                let was : q.0 ≡ x = same_some (sym q.1 ∙ ap (unit_at old) e ∙ p.was) in
+                subst (λ d. IsInput new d i c n.0) (sym now) (input_now i c n.0 (input_kept x i c h.0 n.0 n.2 n.3 (subst (λ d. IsInput old d i c h.0) was h.2)))
+            | inr ne ↦
+                let was : q.0 ≡ z = same_some (sym q.1 ∙ sym (unit_else w ne) ∙ at) in
+                input_kept z i c h.0 n.0 n.2 n.3 (subst (λ d. IsInput old d i c h.0) was h.2)
+          ],
+        );
+    held = λ i c is. absurd (none_some is);
+    counted = λ w j k is. let b = list_back w k is in omega (arith, same_own w j, same_mark w j, table.counted w j b.0 b.1);
+    rank = table.rank;
+    bound = table.bound;
+    below = λ w z at. elim (cases_eq w u) [
+      | inl e ↦ table.below w x (ap (unit_at old) e ∙ p.was)
+      | inr ne ↦ table.below w z (sym (unit_else w ne) ∙ at)
+    ];
+    falls = λ w i z c at inside cursor. let q = input_was w i z c at inside cursor in table.falls w i q.0 c q.1 q.2 q.3;
+  }
+
+  sum_more : (marks : List ℕ) → sum (marks ++ 0 ∷ []) ≡ sum marks
+  sum_more marks = omega (arith, sum_by-append (λ (m : ℕ). m) marks (0 ∷ []))
+
+  pub IsRead-filled : IsRead new
+  IsRead-filled w k is = elim (cases_eq w u) [
+    | inl e ↦
+        let same : k ≡ longer = same_some (sym is ∙ ap (list_at new.store) e ∙ longer_here) in
+        omega (arith, ap cursors_of same, sum_more l.marks, f.heap.read u l listed)
+    | inr ne ↦ f.heap.read w k (sym (list_else w ne) ∙ is)
+  ]
+
+  -- ---- its inputs
+
+  count : length x.inputs.items ≡ inputs_in x.work
+  count = was_unit.count
+
+  pub filled_now : filled_in new.store u ≡ filled_in old.store u + 1
+  filled_now = omega (arith, filled_is new.store u longer longer_here, longer_len, filled_is old.store u l listed)
+
+  same_computed : (w : ℕ) → w ≢ u → computed_in new w ≡ computed_in old w
+  same_computed w ne =
+      ap (λ (o : Option ListState). option_map_or {U = ℕ} (λ k. min (length k.values * new.block) k.len) o 0) (list_else w ne)
+      ∙ ap (λ b. option_map_or {U = ℕ} (λ (k : ListState). min (length k.values * b) k.len) (list_at old.store w) 0) same_block
+
+  same_taken : (k n : ℕ) → taken_after new.block (kind_of p.work) x.timing (timing_at x k) n ≡ taken_after old.block (kind_of x.work) x.timing (timing_at x k) n
+  same_taken k n = λ i. taken_after (same_block i) (same_kinds i) x.timing (timing_at x k) n
+
+  unit_is : f.there.unit ≡ x
+  unit_is = same_some (sym f.there.there ∙ p.was)
+
+  need_there : (k : ℕ) (c : CursorState) → k < length x.inputs.items → cursor_at x.work k ≡ Some c → taken_after old.block (kind_of x.work) x.timing (timing_at x k) (filled_in old.store u + 1) ≤ computed_in old c.list
+  need_there k c inside is =
+      let within : k < inputs_in x.work = omega (arith, inside, count) in
+      let need = need_is ℕ old table 0 0 u x p.was k c within is in
+      let far = subst (λ (q : UnitData). k < inputs_in q.work → cursor_at q.work k ≡ Some c → need_in q.work k (computed_next_in old u) ≤ computed_in old c.list) unit_is (far_enough old u f k c) within is in
+      omega (arith, need, far)
+
+  apart : (k : ℕ) (c : CursorState) → k < length x.inputs.items → cursor_at x.work k ≡ Some c → c.list ≢ u
+  apart k c inside is e = absurd (omega (arith, table.falls u k x c p.was inside is, ap table.rank e))
+
+  pub settling : Settling new u 0
+  settling = record {
+    table = IsTable-filled;
+    read = IsRead-filled;
+    unit = y;
+    there = unit_here;
+    before = filled_in old.store u;
+    filled = filled_now;
+    places = λ k c from inside is.
+        let was : cursor_at x.work k ≡ Some c = sym (same_cursor k) ∙ is in
+        f.heap.needs u k x c p.was inside was ∙ sym (same_taken k (filled_in old.store u));
+    computed = λ k c from inside is.
+        let was : cursor_at x.work k ≡ Some c = sym (same_cursor k) ∙ is in
+        omega (arith, same_taken k (filled_in old.store u + 1), need_there k c inside was, same_computed c.list (apart k c inside was));
+  }
+
+-- ---- between the two steps
+
+module _ (old mid : Table) (u : ℕ) (out : List ℤ) (f : CanFill old u) (p : Computes old mid u out) where
+  pub there_mid : IsThere mid u
+  there_mid = record {
+    unit = record p.unit { work = p.work };
+    there = ap (λ us. get_or us u None) p.reworks.units ∙ get_or-set_same old.units.items u (Some (record p.unit { work = p.work })) None (place_within old.units.items u p.unit p.was);
+    list = f.there.list;
+    listed = ap (λ s. list_at s u) p.reworks.store ∙ f.there.listed;
+    end = ap (λ (q : UnitData). q.list) (same_some (sym p.was ∙ f.there.there)) ∙ f.there.end;
+    len = f.there.len ∙ ap (λ (q : UnitData). q.timing.len) (same_some (sym f.there.there ∙ p.was));
+  }
+
+  pub open_mid : is_open_in mid u ≡ is_open_in old u
+  open_mid = (λ i. option_map_or (λ (l : ListState). nat_lt (length l.values) (blocks_of (p.reworks.block i) l.len)) (list_at (p.reworks.store i) u) false)
+
+  pub block_mid : mid.store.block ≡ mid.block
+  block_mid = ap (λ s. s.block) p.reworks.store ∙ f.heap.table.block ∙ sym p.reworks.block

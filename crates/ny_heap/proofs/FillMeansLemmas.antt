@@ -1,58 +1,99 @@
--- A fill changes nothing of what the lists mean.
-use Rattle.std.proofs.Common.{◌≡◌, ◌≢◌, ◌⊎◌, inl, inr, ℕ, suc, ◌+◌, ◌-◌, ◌*◌, ◌<◌, ◌≤◌, min, Bool, true, false, cond, nat_lt, List, [], ◌∷◌, ◌++◌, length, drop, take, get_or, map, Option, None, Some, refl, sym, ap, subst, ◌∙◌, arith, length-append, ℤ, pos}
-use Rattle.std.proofs.lemmas.List.{get_or-take, get_or-drop, length-take, length-drop, ext_get_or, get_or_append_left, get_or_push}
-use Rattle.std.proofs.lemmas.Bool.{cases_eq, cases_lt, lt-ltb}
-use Rattle.std.proofs.lemmas.Nat.{mul-le, le-div}
-use Rattle.std.proofs.Math.Nat.{div-mul-le_self}
+-- What the lists of a heap mean stays as it is where a block is filled.
+use Rattle.std.proofs.Common.{◌≡◌, ◌≢◌, inl, inr, ℕ, ◌+◌, ◌-◌, ◌*◌, ◌<◌, ◌≤◌, min, List, [], ◌∷◌, ◌++◌, length, map, take, drop, get_or, Option, None, Some, refl, sym, ap, subst, ◌∙◌, arith, ℤ, pos, length-append}
+use Rattle.std.specs.List.{range_with_len}
 use Rattle.std.specs.Option.{option_map}
-use Rattle.ny_pool.specs.Blocks.{in_block}
-use Rattle.ny_pool.specs.declared.pool.BlockId.{BlockId}
+use Rattle.std.proofs.lemmas.Bool.{cases_eq, cases_lt}
+use Rattle.std.proofs.lemmas.Nat.{le-div}
+use Rattle.std.proofs.lemmas.List.{get_or-take, get_or-drop, length-take, length-drop, ext_get_or, get_or_append_left, get_or_push, get_or_past}
+use Rattle.std.proofs.lemmas.Simd.{map-map}
+use Rattle.ny_num.specs.Sound as sounds
+use Rattle.ny_num.specs.declared.timing.Timing.{Timing}
+use Rattle.ny_list.specs.Store.{ListState, CursorState, list_at, least}
+use Rattle.ny_list.proofs.IndexLemmas.{same_some, none_some}
+use Rattle.ny_units.specs.Inputs.{start_of}
+use Rattle.ny_filters.specs.Filtering.{Filtering}
 use Rattle.ny_heap.specs.declared.table.Unit.{Unit as UnitData}
 use Rattle.ny_heap.specs.declared.table.Table.{Table}
-use Rattle.ny_heap.specs.Heap.{Reader, HeapState, block_at, blocks_of}
-use Rattle.ny_heap.specs.Means.{Parts, Whole, Means, NodeMeans, KeepsMeaning, input_sound, heard, unit_value, all_inputs, nth_block, parts_from, stop_after}
-use Rattle.ny_heap.specs.Steps.{reader_of, moved, filled_node}
-use Rattle.ny_heap.specs.Given.{id_in, no_block}
-use Rattle.ny_heap.specs.Table.{unit_at, input_of, kind_of, IsReady, SameBlocks, Appends, Settles, reach_of}
-use Rattle.ny_heap.specs.View.{node_of, state_of, IsHeap}
-use Rattle.ny_heap.specs.Samples.{heard_in, first_of, second_of, work_value, CanFill, FillsBlock}
-use Rattle.ny_heap.proofs.TableLemmas.{same_some, none_some}
-use Rattle.ny_heap.proofs.PassLemmas.{id_in-drop}
-use Rattle.ny_heap.proofs.ViewLemmas.{node_of_unit, unit_of_node, block_at-state, content_gone, content_kept, content_past}
-use Rattle.ny_heap.proofs.StepLemmas.{content_part}
-use Rattle.ny_heap.proofs.FillLemmas.{can_fill, block_same, now_is, left_was}
-use Rattle.ny_heap.proofs.FillStepLemmas.{node_now}
-use Rattle.ny_heap.proofs.HeardLemmas.{moved_heard, value_by, work_is, heard_first, heard_second, first_same, second_same, nothing_owed, kept_heard}
+use Rattle.ny_heap.specs.declared.work.Work.{Work}
+use Rattle.ny_heap.specs.declared.work.Work.TheVariants.{Filter as FilterWork}
+use Rattle.ny_heap.specs.Heap.{Reader, HeapState, block_at, blocks_of, next_taken, taken_after}
+use Rattle.ny_heap.specs.Means.{Parts, Whole, Means, NodeMeans, KeepsMeaning, input_sound, heard, unit_value, all_inputs, nth_block}
+use Rattle.ny_heap.specs.Tasks.{Hears}
+use Rattle.ny_heap.specs.Work.{kind_of, inputs_in, cursor_at, memory_in, HasGiven, MovesOn, ShowsAll, work_value}
+use Rattle.ny_heap.specs.Table.{unit_at, input_of, readers_of, timing_at, computed_in, computed_next_in, IsUnit}
+use Rattle.ny_heap.specs.View.{node_of, state_of, filled_in}
+use Rattle.ny_heap.specs.Filling.{CanFill, Computes, Appends, Settles, FillsBlock, moved_in}
+use Rattle.ny_heap.proofs.ListLemmas.{blank_kept}
+use Rattle.ny_heap.proofs.CountLemmas.{some_is, is_some_of}
+use Rattle.ny_heap.proofs.NeedLemmas.{taken_at}
+use Rattle.ny_heap.proofs.ViewLemmas.{node_of_unit, unit_of_node, block_at-state, filled_is}
+use Rattle.ny_heap.proofs.MovesLemmas.{same_source, sides_on, begins_on, brings_on, hears_on, given_on}
+use Rattle.ny_heap.proofs.ValueLemmas.{value_on, value_is, AreHeardSo}
+use Rattle.ny_heap.proofs.MeansLemmas.{moved_heard, moved_sound, SameInputs, value_by}
+use Rattle.ny_heap.proofs.CanLemmas as can
+use Rattle.ny_heap.proofs.AppendLemmas as more
+use Rattle.ny_heap.proofs.FillLemmas.{unit_now, block_same, filled_new, other_was, other_filled, input_now, same_memory, work_kind, input_count}
 
-module _ (B : Type 0) (old new : Table) (u : ℕ) (out : List ℤ) (heap : IsHeap old) (fills : FillsBlock old new u out) (ready : IsReady old u) (whole : length out ≡ old.block) (count peak later_count later_peak : ℕ) where
-  abbrev a : Appends old fills.mid u fills.work out
+module _ (B : Type 0) (old new : Table) (u : ℕ) (out : List ℤ) (f : CanFill old u) (fills : FillsBlock old new u out) (whole : length out ≡ old.block) (count peak later_count later_peak : ℕ) where
+  abbrev p : Computes old fills.computed u out
+  p = fills.computes
+
+  abbrev a : Appends fills.computed fills.longer u out
   a = fills.appends
 
-  abbrev s : Settles fills.mid new u 0 (length fills.appends.was.inputs.items)
+  abbrev s : Settles fills.longer new u 0 (inputs_in fills.computes.work)
   s = fills.settles
 
-  ready_is : ready.unit ≡ a.was
-  ready_is = same_some (sym ready.there ∙ a.there)
+  abbrev was : UnitData
+  was = fills.computes.unit
 
-  opened : a.was.filled < blocks_of old.block a.was.timing.len
-  opened = subst (λ (q : UnitData). q.filled < blocks_of old.block q.timing.len) ready_is ready.opened
+  abbrev now : UnitData
+  now = record fills.computes.unit { work = fills.settles.now.work }
+
+  -- ---- numbers
+
+  same_unit : f.there.unit ≡ was
+  same_unit = same_some (sym f.there.there ∙ p.was)
+
+  -- how many samples there are before and after
+  abbrev done : ℕ
+  done = computed_in old u
+
+  abbrev n : ℕ
+  n = computed_next_in old u - computed_in old u
 
   positive : 0 < old.block
-  positive = heap.table.positive
+  positive = omega (arith, f.heap.table.store.some, f.heap.table.block)
 
-  -- the unit's filled blocks are whole
-  pub not_past : a.was.filled * old.block < a.was.timing.len
-  not_past = omega (arith, div-mul-le_self (a.was.timing.len + (old.block - 1)) old.block, mul-le (a.was.filled + 1) old.block (blocks_of old.block a.was.timing.len) old.block (omega (arith, opened)) (omega arith), positive)
+  done_is : computed_in old u ≡ filled_in old.store u * old.block
+  done_is = can.done_all old u f
 
-  can : CanFill old u (reach_of old.block a.was.timing a.was.filled) (reach_of old.block a.was.timing (a.was.filled + 1))
-  can = subst (λ (q : UnitData). CanFill old u (reach_of old.block q.timing q.filled) (reach_of old.block q.timing (q.filled + 1))) ready_is (can_fill old u heap.table ready)
+  next_is : computed_next_in old u ≡ min ((filled_in old.store u + 1) * old.block) was.timing.len
+  next_is = can.next_to old u f ∙ ap (λ (q : UnitData). min ((filled_in old.store u + 1) * old.block) q.timing.len) same_unit
 
-  -- blocks of a unit that is left hold what they held
-  same_blocks : (v : ℕ) (x y : UnitData) → unit_at old v ≡ Some x → unit_at new v ≡ Some y → x.gone ≤ y.gone → y.kept.items ≡ drop (y.gone - x.gone) x.kept.items → SameBlocks old new y
-  same_blocks v x y was now passed kept j h =
-      let id = ap (λ bs. id_in bs j) kept ∙ id_in-drop (y.gone - x.gone) x.kept.items j in
-      let inside : y.gone - x.gone + j < length x.kept.items = omega (arith, h, ap length kept, length-drop (y.gone - x.gone) x.kept.items) in
-      s.blocks v y now j h ∙ ap (in_block fills.mid.pool) id ∙ a.blocks v x was (y.gone - x.gone + j) inside ∙ ap (in_block old.pool) (sym id)
+  forward : computed_in old u < computed_next_in old u
+  forward = can.forward old u f
+
+  sum_is : computed_in old u + (computed_next_in old u - computed_in old u) ≡ computed_next_in old u
+  sum_is = omega (arith, forward)
+
+  abbrev l : ListState
+  l = (f.heap.table.units u fills.computes.unit fills.computes.was).0
+
+  listed : list_at old.store u ≡ Some l
+  listed = (f.heap.table.units u was p.was).1
+
+  unit : IsUnit old u was l
+  unit = (f.heap.table.units u was p.was).2
+
+  filled_l : filled_in old.store u ≡ length l.values
+  filled_l = filled_is old.store u l listed
+
+  given : HasGiven was.work was.timing.len (computed_in old u)
+  given = subst (HasGiven was.work was.timing.len) given_count unit.given
+    where
+      given_count : min (length l.values * old.block) was.timing.len ≡ computed_in old u
+      given_count = sym (can.done_is old u f ∙ (λ i. min (filled_l i * old.block) (same_unit i).timing.len))
 
   module _ (part : Parts B) (w : Whole) (means : Means part (state_of old count peak) w) where
     abbrev before : HeapState B
@@ -61,162 +102,231 @@ module _ (B : Type 0) (old new : Table) (u : ℕ) (out : List ℤ) (heap : IsHea
     abbrev later : HeapState B
     later = state_of new later_count later_peak
 
-    other : (v : ℕ) (y : UnitData) → v ≢ u → unit_at new v ≡ Some y → NodeMeans part later w v (node_of y)
-    other v y ne now =
-        let was = left_was old new u out heap fills v y ne now in
-        let x = was.0 in
-        let m = means v (node_of x) (node_of_unit B old count peak v x was.1) in
-        let long : y.gone + length y.kept.items ≡ x.gone + length x.kept.items = omega (arith, (s.table.units v y now).kept, (heap.table.units v x was.1).kept, ap (λ (q : UnitData). q.filled) was.2) in
-        subst (NodeMeans part later w v) (sym (ap node_of was.2)) (record {
+    -- ---- another unit
+
+    other : (v : ℕ) (y : UnitData) → v ≢ u → unit_at new v ≡ Some y → NodeMeans part later w v (node_of new [] v y)
+    other v y ne at =
+        let at_old = other_was old new u out f fills v y ne at in
+        let m = means v (node_of old [] v y) (node_of_unit B old count peak v y at_old) in
+        let lists = fills.table.units v y at in
+        let k = s.lists v lists.0 lists.1 in
+        let list_old : list_at old.store v ≡ Some k.0 = sym (more.list_else old fills.computed fills.longer u out f p a v ne) ∙ k.1 in
+        let block = block_same old new u out f fills in
+        let filled = other_filled old new u out f fills v y ne at in
+        record {
           len = m.len;
           owed = m.owed;
-          kept = λ j b e. m.kept j b (
-              block_at-state B old count peak v j x was.1
-              ∙ content_part old new x y (block_same old new u out heap fills) (ap (λ (q : UnitData). q.timing) was.2) was.3 was.4 long (same_blocks v x y was.1 now was.3 was.4) j b (sym (block_at-state B new later_count later_peak v j y now) ∙ e)
-              ) ∙ ap (λ n. nth_block n (w.samples v) j) (sym (block_same old new u out heap fills));
-          rest = λ k from below. m.rest k (subst (λ n. x.filled * n ≤ k) (block_same old new u out heap fills) from) below ∙ ap (λ n. unit_value (kind_of x.work) x.timing [] (x.timing.start + x.filled * n) (all_inputs part w v (node_of x)) (x.timing.start + k)) (sym (block_same old new u out heap fills));
-        })
+          kept = λ j b e.
+              m.kept j b (block_at-state B old count peak v j k.0 list_old ∙ k.2.kept j b (sym (block_at-state B new later_count later_peak v j lists.0 lists.1) ∙ e))
+              ∙ ap (λ c. nth_block c (w.samples v) j) (sym block);
+          rest = λ k from below.
+              m.rest k (subst (λ c. filled_in old.store v * c ≤ k) block (subst (λ c. c * new.block ≤ k) filled from)) below
+              ∙ (λ i. unit_value (kind_of y.work) y.timing (memory_in y.work) (y.timing.start + sym filled i * sym block i) (all_inputs part w v (node_of old [] v y)) (y.timing.start + k));
+        }
 
-    abbrev mine : NodeMeans part before w u (node_of a.was)
-    mine = means u (node_of a.was) (node_of_unit B old count peak u a.was a.there)
+    -- ---- the unit itself
 
-    readers : List (Option Reader)
-    readers = map reader_of a.was.inputs.items
+    mine : NodeMeans part before w u (node_of old [] u was)
+    mine = means u (node_of old [] u was) (node_of_unit B old count peak u was p.was)
 
-    -- what the unit computed is its list
-    computed : (k : ℕ) → k < old.block → a.was.filled * old.block + k < a.was.timing.len → get_or out k (pos 0) ≡ get_or (w.samples u) (a.was.filled * old.block + k) (pos 0)
-    computed k inside below =
-        let m : ℕ = a.was.timing.start + (a.was.filled * old.block + k) in
-        let none = nothing_owed B part w u (node_of {B = B} a.was).last_stop [] mine.owed refl in
-        let now : reach_of old.block a.was.timing a.was.filled + k ≡ a.was.timing.start + (a.was.filled * old.block + k) = omega (arith, not_past) in
-        let to : reach_of old.block a.was.timing a.was.filled + k < reach_of old.block a.was.timing (a.was.filled + 1) = omega (arith, not_past) in
-        fills.made k (omega (arith, inside, whole)) to
-        ∙ ap (λ n. work_value a.was.work a.was.timing n (heard_in old (reach_of old.block a.was.timing a.was.filled + k)) (map reader_of a.was.inputs.items)) now
-        ∙ sym (
-        mine.rest (a.was.filled * old.block + k) (omega arith) below
-        ∙ work_is a.was.work a.was.timing [] (a.was.timing.start + a.was.filled * old.block) (all_inputs part w u (node_of a.was)) (a.was.timing.start + (a.was.filled * old.block + k)) (heard_in old (reach_of old.block a.was.timing a.was.filled + k)) (map reader_of a.was.inputs.items)
-        (heard_first w.samples (map reader_of a.was.inputs.items) _ (a.was.timing.start + (a.was.filled * old.block + k)) none ∙ first_same _ _ (map reader_of a.was.inputs.items) (λ i h. sym (one (reach_of old.block a.was.timing a.was.filled + k) (a.was.timing.start + (a.was.filled * old.block + k)) now (omega arith) to i (get_or (map reader_of a.was.inputs.items) i None) refl)))
-        (heard_second w.samples (map reader_of a.was.inputs.items) _ (a.was.timing.start + (a.was.filled * old.block + k)) none ∙ second_same _ _ (map reader_of a.was.inputs.items) (λ i h. sym (one (reach_of old.block a.was.timing a.was.filled + k) (a.was.timing.start + (a.was.filled * old.block + k)) now (omega arith) to i (get_or (map reader_of a.was.inputs.items) i None) refl)))
-        )
+    -- what the store keeps of each list is what the whole list has there
+    shows : ShowsAll old.store w.samples
+    shows v = record {
+      kept = λ k j b listed is.
+          let y = some_is (unit_at old v) (f.heap.table.lists v (is_some_of _ k listed)) in
+          (means v (node_of old [] v y.0) (node_of_unit B old count peak v y.0 y.1)).kept j b (block_at-state B old count peak v j k listed ∙ is)
+          ∙ ap (λ c. nth_block c (w.samples v) j) (sym f.heap.table.block);
+    }
+
+    -- what it hears beside its inputs
+    abbrev rest : List (Option sounds.Sound)
+    rest = map Some (w.owed u) ++ []
+
+    abbrev sounds_by : Work → (ℕ → Option sounds.Sound) → List (Option sounds.Sound)
+    sounds_by v g = map g (range_with_len 0 (inputs_in v)) ++ rest
+
+    all_sounds : (q : UnitData) (v : Work) → length q.inputs.items ≡ inputs_in v → map (input_sound w.samples) (readers_of q) ++ rest ≡ sounds_by v (λ i. input_sound w.samples (input_of q i))
+    all_sounds q v same = ap (λ xs. xs ++ rest) (map-map (input_sound w.samples) (input_of q) (range_with_len 0 (length q.inputs.items)) ∙ ap (λ m. map (λ i. input_sound w.samples (input_of q i)) (range_with_len 0 m)) same)
+
+    heard_so : (k : ℕ) → AreHeardSo was.timing was.inputs.items w.samples was.timing.len done k rest was.work
+    heard_so k i inside c is =
+        let r = f.heap.table.inputs u i was l c p.was listed (omega (arith, inside, unit.count)) is in
+        (r.2.starts, r.2.sees)
+
+    heard_still : (k : ℕ) → AreHeardSo was.timing was.inputs.items w.samples was.timing.len (computed_next_in old u) k rest p.work
+    heard_still k i inside c is =
+        let source = same_source was.work p.work (computed_next_in old u) i p.moves in
+        let so = heard_so k i (omega (arith, inside, Rattle.ny_heap.proofs.MovesLemmas.same_inputs was.work p.work (computed_next_in old u) p.moves)) c (ap Rattle.ny_units.specs.Inputs.reader_of (sym source) ∙ is) in
+        (ap start_of source ∙ so.0, so.1)
+
+    -- what it is to give is what its work computes
+    value_was : (k : ℕ) → unit_value (kind_of was.work) was.timing (memory_in was.work) (was.timing.start + done) (map (input_sound w.samples) (readers_of was) ++ rest) (was.timing.start + k) ≡ work_value was.work w.samples done k
+    value_was k =
+        ap (λ ss. unit_value (kind_of was.work) was.timing (memory_in was.work) (was.timing.start + done) ss (was.timing.start + k)) (all_sounds was was.work unit.count)
+        ∙ value_is was.timing was.inputs.items w.samples was.timing.len done k rest was.work unit.sides unit.begins given (heard_so k)
+
+    given_samples : (k : ℕ) → done ≤ k → k < was.timing.len → get_or (w.samples u) k (pos 0) ≡ work_value was.work w.samples done k
+    given_samples k from below =
+        mine.rest k (omega (arith, from, done_is)) below
+        ∙ ap (λ d. unit_value (kind_of was.work) was.timing (memory_in was.work) (was.timing.start + d) (map (input_sound w.samples) (readers_of was) ++ rest) (was.timing.start + k)) (sym done_is)
+        ∙ value_was k
+
+    -- what it computed is its list
+    computed : (k : ℕ) → k < n → get_or out k (pos 0) ≡ get_or (w.samples u) (done + k) (pos 0)
+    computed k inside = p.samples w.samples shows k inside ∙ sym (given_samples (done + k) (omega arith) (omega (arith, inside, forward, next_is)))
+
+    last_block : take (was.timing.len - done) out ≡ nth_block old.block (w.samples u) (filled_in old.store u)
+    last_block = ext_get_or (pos 0) (take (was.timing.len - done) out) (nth_block old.block (w.samples u) (filled_in old.store u)) long (λ k h.
+        let inside : k < min (was.timing.len - done) old.block = omega (arith, h, length-take (was.timing.len - done) out, whole) in
+        get_or-take (was.timing.len - done) out k (pos 0) (omega (arith, inside))
+        ∙ computed k (omega (arith, inside, next_is, done_is))
+        ∙ ap (λ d. get_or (w.samples u) (d + k) (pos 0)) done_is
+        ∙ sym (get_or-take old.block (drop (filled_in old.store u * old.block) (w.samples u)) k (pos 0) (omega (arith, inside)) ∙ get_or-drop (filled_in old.store u * old.block) (w.samples u) k (pos 0)))
       where
-        one : (p m : ℕ) → p ≡ m → reach_of old.block a.was.timing a.was.filled ≤ p → p < reach_of old.block a.was.timing (a.was.filled + 1) → (i : ℕ) (o : Option Reader) → input_of a.was i ≡ o → heard_in old p o ≡ heard (input_sound w.samples o) m
-        one p m e low to i None reads = refl
-        one p m e low to i (Some r) reads = kept_heard B old count peak part w heap.table means u i a.was r (reach_of old.block a.was.timing a.was.filled) (reach_of old.block a.was.timing (a.was.filled + 1)) p a.there can reads low to ∙ ap (heard (input_sound w.samples (Some r))) e
-
-    last_block : take (a.was.timing.len - a.was.filled * old.block) out ≡ nth_block old.block (w.samples u) a.was.filled
-    last_block = ext_get_or (pos 0) (take (a.was.timing.len - a.was.filled * old.block) out) (nth_block old.block (w.samples u) a.was.filled) long (λ k h.
-        let inside : k < min (a.was.timing.len - a.was.filled * old.block) old.block = omega (arith, h, length-take (a.was.timing.len - a.was.filled * old.block) out, whole) in
-        get_or-take (a.was.timing.len - a.was.filled * old.block) out k (pos 0) (omega (arith, inside))
-        ∙ computed k (omega (arith, inside)) (omega (arith, inside))
-        ∙ sym (get_or-take old.block (drop (a.was.filled * old.block) (w.samples u)) k (pos 0) (omega (arith, inside)) ∙ get_or-drop (a.was.filled * old.block) (w.samples u) k (pos 0)))
-      where
-        long : length (take (a.was.timing.len - a.was.filled * old.block) out) ≡ length (nth_block old.block (w.samples u) a.was.filled)
-        long = omega (arith, length-take (a.was.timing.len - a.was.filled * old.block) out, whole, length-take old.block (drop (a.was.filled * old.block) (w.samples u)), length-drop (a.was.filled * old.block) (w.samples u), mine.len)
+        long : length (take (was.timing.len - done) out) ≡ length (nth_block old.block (w.samples u) (filled_in old.store u))
+        long = omega (arith, length-take (was.timing.len - done) out, whole, length-take old.block (drop (filled_in old.store u * old.block) (w.samples u)), length-drop (filled_in old.store u * old.block) (w.samples u), mine.len, done_is)
 
     -- its blocks
-    kept_now : s.now.kept.items ≡ a.was.kept.items ++ a.last ∷ []
-    kept_now = ap (λ (q : UnitData). q.kept.items) (now_is old new u out heap fills) ∙ a.kept
+    list_was : a.list ≡ l
+    list_was = same_some (sym (more.listed old fills.computed fills.longer u out f p a) ∙ listed)
 
-    gone_now : s.now.gone ≡ a.was.gone
-    gone_now = ap (λ (q : UnitData). q.gone) (now_is old new u out heap fills)
+    -- what it appended
+    abbrev last : List ℤ
+    last = take (a.list.len - length a.list.values * fills.computed.store.block) out
 
-    timing_now : s.now.timing ≡ a.was.timing
-    timing_now = ap (λ (q : UnitData). q.timing) (now_is old new u out heap fills)
+    last_is : last ≡ nth_block old.block (w.samples u) (filled_in old.store u)
+    last_is =
+        (λ i. take ((list_was i).len - length (list_was i).values * (p.reworks.store i).block) out)
+        ∙ (λ i. take (unit.len i - sym filled_l i * f.heap.table.block i) out)
+        ∙ ap (λ d. take (was.timing.len - d) out) (sym done_is)
+        ∙ last_block
 
     kept_blocks : (j : ℕ) (b : List ℤ) → block_at later u j ≡ Some b → b ≡ nth_block old.block (w.samples u) j
-    kept_blocks j b e = elim (cases_lt j s.now.gone) [
-      | inl gone ↦ absurd (none_some (sym (block_at-state B new later_count later_peak u j s.now s.after ∙ content_gone new s.now j gone) ∙ e))
-      | inr from ↦ elim (cases_lt j (s.now.gone + length s.now.kept.items)) [
-        | inr past ↦ absurd (none_some (sym (block_at-state B new later_count later_peak u j s.now s.after ∙ content_past new s.now j past) ∙ e))
-        | inl to ↦ at_place from to (cases_lt (j - a.was.gone) (length a.was.kept.items))
+    kept_blocks j b e = elim (cases_lt j (length a.list.values)) [
+      | inl inside ↦
+          mine.kept j b (block_at-state B old count peak u j l listed ∙ ap (λ (k : ListState). get_or k.values j None) (sym list_was) ∙ sym (get_or_append_left a.list.values (Some last ∷ []) None j inside) ∙ there)
+      | inr past ↦ elim (cases_eq (length a.list.values) j) [
+        | inl same ↦
+            same_some (sym there ∙ get_or_push a.list.values (Some last) None j same)
+            ∙ last_is
+            ∙ ap (nth_block old.block (w.samples u)) (omega (arith, same, filled_l, ap (λ (k : ListState). length k.values) list_was))
+        | inr beyond ↦ absurd (none_some (sym (get_or_past (a.list.values ++ Some last ∷ []) j None (omega (arith, past, beyond, length-append a.list.values (Some last ∷ [])))) ∙ there))
       ]
     ]
       where
-        back : new.block ≡ old.block
-        back = block_same old new u out heap fills
+        there : get_or (a.list.values ++ Some last ∷ []) j None ≡ Some b
+        there =
+            let m = fills.table.units u now (unit_now old new u out f fills) in
+            let k = s.lists u m.0 m.1 in
+            let same : k.0 ≡ more.longer old fills.computed fills.longer u out f p a = same_some (sym k.1 ∙ more.longer_here old fills.computed fills.longer u out f p a) in
+            let is : get_or (more.longer old fills.computed fills.longer u out f p a).values j None ≡ Some b = ap (λ (q : ListState). get_or q.values j None) (sym same) ∙ k.2.kept j b (sym (block_at-state B new later_count later_peak u j m.0 m.1) ∙ e) in
+            blank_kept (least (a.list.marks ++ 0 ∷ [])) (a.list.values ++ Some last ∷ []) j b is
 
-        content : s.now.gone ≤ j → j < s.now.gone + length s.now.kept.items → option_map (take (a.was.timing.len - j * old.block)) (in_block new.pool (id_in s.now.kept.items (j - s.now.gone))) ≡ Some b
-        content from to = (λ i. option_map (take ((sym timing_now i).len - j * sym back i)) (in_block new.pool (id_in s.now.kept.items (j - s.now.gone)))) ∙ sym (content_kept new s.now j from to) ∙ sym (block_at-state B new later_count later_peak u j s.now s.after) ∙ e
+    -- ---- its rest, with the inputs that it has left
 
-        held : (n : ℕ) → n < length s.now.kept.items → in_block new.pool (id_in s.now.kept.items n) ≡ in_block fills.mid.pool (id_in s.now.kept.items n)
-        held n h = s.blocks u s.now s.after n h
+    module _ (k : ℕ) (from : (filled_in old.store u + 1) * old.block ≤ k) (below : k < was.timing.len) where
+      next_all : computed_next_in old u ≡ (filled_in old.store u + 1) * old.block
+      next_all = omega (arith, next_is, from, below)
 
-        at_place : s.now.gone ≤ j → j < s.now.gone + length s.now.kept.items → (j - a.was.gone < length a.was.kept.items) ⊎ (length a.was.kept.items ≤ j - a.was.gone) → b ≡ nth_block old.block (w.samples u) j
-        at_place from to (inl inside) =
-            let place : j - s.now.gone ≡ j - a.was.gone = omega (arith, gone_now) in
-            let id : id_in s.now.kept.items (j - s.now.gone) ≡ id_in a.was.kept.items (j - a.was.gone) = (λ i. id_in (kept_now i) (place i)) ∙ ap (λ (q : BlockId). q.0) (get_or_append_left a.was.kept.items (a.last ∷ []) no_block (j - a.was.gone) inside) in
-            let was : in_block new.pool (id_in s.now.kept.items (j - s.now.gone)) ≡ in_block old.pool (id_in a.was.kept.items (j - a.was.gone)) = held (j - s.now.gone) (omega (arith, from, to)) ∙ ap (in_block fills.mid.pool) id ∙ a.blocks u a.was a.there (j - a.was.gone) inside in
-            mine.kept j b (
-            block_at-state B old count peak u j a.was a.there
-            ∙ content_kept old a.was j (omega (arith, from, gone_now)) (omega (arith, from, gone_now, inside))
-            ∙ ap (option_map (take (a.was.timing.len - j * old.block))) (sym was)
-            ∙ content from to
-            )
-        at_place from to (inr past) =
-            let long : length s.now.kept.items ≡ length a.was.kept.items + 1 = ap length kept_now ∙ length-append a.was.kept.items (a.last ∷ []) in
-            let last : j - s.now.gone ≡ length a.was.kept.items = omega (arith, gone_now, from, to, long, past) in
-            let filled : j ≡ a.was.filled = omega (arith, last, gone_now, from, (heap.table.units u a.was a.there).kept) in
-            let id : id_in s.now.kept.items (j - s.now.gone) ≡ a.last.0 = ap (λ bs. id_in bs (j - s.now.gone)) kept_now ∙ ap (λ (q : BlockId). q.0) (get_or_push a.was.kept.items a.last no_block (j - s.now.gone) (sym last)) in
-            let is : in_block new.pool (id_in s.now.kept.items (j - s.now.gone)) ≡ Some out = held (j - s.now.gone) (omega (arith, from, to)) ∙ ap (in_block fills.mid.pool) id ∙ a.content in
-            let taken : take (a.was.timing.len - j * old.block) out ≡ b = same_some (sym (ap (option_map (take (a.was.timing.len - j * old.block))) is) ∙ content from to) in
-            sym taken ∙ ap (λ n. take (a.was.timing.len - n * old.block) out) filled ∙ last_block ∙ ap (nth_block old.block (w.samples u)) (sym filled)
+      late : computed_next_in old u ≤ k
+      late = omega (arith, next_all, from)
 
-    -- its rest, with the inputs that it has left
-    rest_now : (k : ℕ) → (a.was.filled + 1) * old.block ≤ k → k < a.was.timing.len → get_or (w.samples u) k (pos 0) ≡ unit_value (kind_of a.was.work) a.was.timing [] (a.was.timing.start + (a.was.filled + 1) * old.block) (all_inputs part w u (filled_node old.block [] (node_of {B = B} a.was))) (a.was.timing.start + k)
-    rest_now k from below =
-        mine.rest k (omega (arith, from, mul-le a.was.filled old.block (a.was.filled + 1) old.block (omega arith) (omega arith))) below
-        ∙ value_by a.was.work a.was.timing [] [] (a.was.timing.start + a.was.filled * old.block) (a.was.timing.start + (a.was.filled + 1) * old.block) (all_inputs part w u (node_of a.was)) (all_inputs part w u (filled_node old.block [] (node_of {B = B} a.was))) (a.was.timing.start + k)
-        (heard_first w.samples (map reader_of a.was.inputs.items) _ (a.was.timing.start + k) none ∙ sym (heard_first w.samples (map next (map reader_of a.was.inputs.items)) _ (a.was.timing.start + k) none_left ∙ first_next (map reader_of a.was.inputs.items) (λ i r e. some_seen i r e)))
-        (heard_second w.samples (map reader_of a.was.inputs.items) _ (a.was.timing.start + k) none ∙ sym (heard_second w.samples (map next (map reader_of a.was.inputs.items)) _ (a.was.timing.start + k) none_left ∙ second_next (map reader_of a.was.inputs.items) (λ i r e. some_seen i r e)))
-      where
-        next : Option Reader → Option Reader
-        next = cond (nat_lt (a.was.filled + 1) (blocks_of old.block a.was.timing.len)) (moved {B = B} old.block (node_of a.was) (a.was.filled + 1)) (λ r. None)
+      still : filled_in old.store u + 1 < blocks_of old.block was.timing.len
+      still = omega (arith, le-div (filled_in old.store u + 1 + 1) (was.timing.len + (old.block - 1)) old.block positive (omega (arith, from, below)))
 
-        some_seen : (i : ℕ) (r : Reader) → input_of a.was i ≡ Some r → 0 < r.timing.len
-        some_seen i r reads = omega (arith, (heap.clean u a.was a.there i r reads).0)
+      -- its work has still to give what it had
+      value_on_rest : work_value p.work w.samples (computed_next_in old u) k ≡ work_value was.work w.samples done k
+      value_on_rest =
+          ap (λ m. work_value p.work w.samples m k) (sym sum_is)
+          ∙ value_on was.work p.work was.timing was.inputs.items w.samples was.timing.len done n k (subst (MovesOn was.work p.work) (sym sum_is) p.moves) (p.recalls w.samples shows) unit.hears given (omega (arith, late, sum_is))
 
-        none : (map Some (w.owed u) ++ map Some (parts_from part w.samples (stop_after (node_of {B = B} a.was).last_stop (w.owed u)) (node_of {B = B} a.was).waiting)) ≡ []
-        none = nothing_owed B part w u (node_of {B = B} a.was).last_stop [] mine.owed refl
+      value_then : unit_value (kind_of p.work) was.timing (memory_in p.work) (was.timing.start + computed_next_in old u) (sounds_by p.work (λ i. input_sound w.samples (input_of (record was { work = p.work }) i))) (was.timing.start + k) ≡ work_value p.work w.samples (computed_next_in old u) k
+      value_then =
+          value_is was.timing was.inputs.items w.samples was.timing.len (computed_next_in old u) k rest p.work
+          (sides_on was.work p.work (computed_next_in old u) p.moves unit.sides)
+          (begins_on was.work p.work (computed_next_in old u) was.timing p.moves unit.begins)
+          (given_on was.work p.work was.timing.len done (computed_next_in old u) p.moves given)
+          (heard_still k)
 
-        waits : (b : Bool) → cond b (node_of {B = B} a.was).waiting [] ≡ []
-        waits true = refl
-        waits false = refl
+      -- an input once it has moved on
+      input_is : (i : ℕ) → i < inputs_in p.work → input_of now i ≡ moved_in old.block was (filled_in old.store u + 1) (input_of was i)
+      input_is i inside = input_now old new u out f fills i (omega (arith, inside, input_count old new u out f fills))
 
-        none_left : (map Some (w.owed u) ++ map Some (parts_from part w.samples (stop_after (node_of {B = B} a.was).last_stop (w.owed u)) (cond (nat_lt (a.was.filled + 1) (blocks_of old.block a.was.timing.len)) (node_of {B = B} a.was).waiting []))) ≡ []
-        none_left = nothing_owed B part w u (node_of {B = B} a.was).last_stop (cond (nat_lt (a.was.filled + 1) (blocks_of old.block a.was.timing.len)) (node_of {B = B} a.was).waiting []) mine.owed (waits (nat_lt (a.was.filled + 1) (blocks_of old.block a.was.timing.len)))
+      same_cursors : (i : ℕ) → input_of (record was { work = p.work }) i ≡ input_of was i
+      same_cursors i = ap (option_map {U = Reader} (λ c. record { node = c.list; place = c.place; timing = timing_at was i })) (more.same_cursor old fills.computed fills.longer u out f p a i)
 
-        still_open : a.was.filled + 1 < blocks_of old.block a.was.timing.len
-        still_open = omega (arith, le-div (a.was.filled + 1 + 1) (a.was.timing.len + (old.block - 1)) old.block positive (omega arith))
+      timing_of : (i : ℕ) (r : Reader) → input_of was i ≡ Some r → r.timing ≡ timing_at was i
+      timing_of i r is = by (cursor_at was.work i) refl
+        where
+          by : (o : Option CursorState) → cursor_at was.work i ≡ o → r.timing ≡ timing_at was i
+          by None e = absurd (none_some (sym (ap (option_map {U = Reader} (λ c. record { node = c.list; place = c.place; timing = timing_at was i })) e) ∙ is))
+          by (Some c) e = ap (λ (q : Reader). q.timing) (same_some (sym is ∙ ap (option_map {U = Reader} (λ d. record { node = d.list; place = d.place; timing = timing_at was i })) e))
 
-        one_next : (o : Option Reader) → ((r : Reader) → o ≡ Some r → 0 < r.timing.len) → heard (input_sound w.samples (next o)) (a.was.timing.start + k) ≡ heard (input_sound w.samples o) (a.was.timing.start + k)
-        one_next o seen = ap (λ b. heard (input_sound w.samples (cond b (moved {B = B} old.block (node_of a.was) (a.was.filled + 1)) (λ r. None) o)) (a.was.timing.start + k)) (lt-ltb (a.was.filled + 1) (blocks_of old.block a.was.timing.len) still_open) ∙ moved_heard B w.samples old.block (a.was.filled + 1) (node_of a.was) o (a.was.timing.start + k) (omega arith) seen (omega (arith, from))
+      next_in_block : min ((filled_in old.store u + 1) * old.block) was.timing.len ≡ computed_next_in old u
+      next_in_block = sym next_is
 
-        first_next : (os : List (Option Reader)) → ((i : ℕ) (r : Reader) → get_or os i None ≡ Some r → 0 < r.timing.len) → first_of (λ o. heard (input_sound w.samples o) (a.was.timing.start + k)) (map next os) ≡ first_of (λ o. heard (input_sound w.samples o) (a.was.timing.start + k)) os
-        first_next [] seen = refl
-        first_next (o ∷ os) seen = one_next o (seen 0)
+      -- a filter has not passed all of its input
+      filter_more : (g : Filtering) (start : ℕ) → p.work ≡ FilterWork g start → (r : Reader) → input_of was 0 ≡ Some r → taken_after old.block (kind_of was.work) was.timing r.timing (filled_in old.store u + 1) < r.timing.len
+      filter_more g start e r is =
+          let timing : r.timing ≡ was.timing = timing_of 0 r is ∙ sym (first was.inputs.items (subst (λ v. Hears v was.timing was.inputs.items) e (hears_on was.work p.work (computed_next_in old u) was.timing was.inputs.items p.moves unit.hears))) in
+          let kind : kind_of was.work ≡ kind_of (FilterWork g start) = sym (more.same_kinds old fills.computed fills.longer u out f p a) ∙ ap kind_of e in
+          let taken : taken_after old.block (kind_of was.work) was.timing r.timing (filled_in old.store u + 1) ≡ taken_after old.block (kind_of (FilterWork g start)) was.timing was.timing (filled_in old.store u + 1) = (λ i. taken_after old.block (kind i) was.timing (timing i) (filled_in old.store u + 1)) in
+          omega (arith, taken, taken_at old.block (kind_of (FilterWork g start)) was.timing was.timing (filled_in old.store u + 1) (omega arith), ap (λ (q : Timing). q.len) timing, from, below)
+        where
+          first : (ts : List Timing) → Hears (FilterWork g start) was.timing ts → was.timing ≡ get_or ts 0 was.timing
+          first [] b = absurd b
+          first (q ∷ qs) b = b
 
-        second_next : (os : List (Option Reader)) → ((i : ℕ) (r : Reader) → get_or os i None ≡ Some r → 0 < r.timing.len) → second_of (λ o. heard (input_sound w.samples o) (a.was.timing.start + k)) (map next os) ≡ second_of (λ o. heard (input_sound w.samples o) (a.was.timing.start + k)) os
-        second_next [] seen = refl
-        second_next (o ∷ os) seen = first_next os (λ i. seen (suc i))
+      same_inputs : SameInputs was.timing was.inputs.items (computed_next_in old u) k late (λ i. input_sound w.samples (input_of (record was { work = p.work }) i)) (λ i. input_sound w.samples (input_of now i)) rest p.work
+      same_inputs = record {
+        hear = λ i m inside far.
+            let same_next : next_taken (kind_of p.work) was.timing (timing_at was i) (computed_next_in old u) ≡ next_taken (kind_of was.work) was.timing (timing_at was i) (min ((filled_in old.store u + 1) * old.block) was.timing.len) = λ j. next_taken (more.same_kinds old fills.computed fills.longer u out f p a j) was.timing (timing_at was i) (next_is j) in
+            ap (λ o. heard (input_sound w.samples o) m) (input_is i inside)
+            ∙ moved_heard w.samples old.block was (filled_in old.store u + 1) (timing_at was i) (input_of was i) m (omega arith) still (timing_of i)
+            (omega (arith, far, same_next))
+            ∙ ap (λ o. heard (input_sound w.samples o) m) (sym (same_cursors i));
+        filter = λ g start e.
+            ap (input_sound w.samples) (input_is 0 (subst (λ v. 0 < inputs_in v) (sym e) (omega arith)))
+            ∙ moved_sound w.samples old.block was (filled_in old.store u + 1) (input_of was 0) still (filter_more g start e)
+            ∙ ap (input_sound w.samples) (sym (same_cursors 0));
+      }
 
-    here : NodeMeans part later w u (filled_node old.block [] (node_of a.was))
-    here = record {
-      len = mine.len;
-      owed = mine.owed;
-      kept = λ j b e. kept_blocks j b e ∙ ap (λ n. nth_block n (w.samples u) j) (sym (block_same old new u out heap fills));
-      rest = λ k from below.
-          rest_now k (subst (λ n. (a.was.filled + 1) * n ≤ k) (block_same old new u out heap fills) from) below
-          ∙ ap (λ n. unit_value (kind_of a.was.work) a.was.timing [] (a.was.timing.start + (a.was.filled + 1) * n) (all_inputs part w u (filled_node old.block [] (node_of {B = B} a.was))) (a.was.timing.start + k)) (sym (block_same old new u out heap fills));
-    }
+      value_now : unit_value (kind_of p.work) was.timing (memory_in p.work) (was.timing.start + computed_next_in old u) (sounds_by p.work (λ i. input_sound w.samples (input_of now i))) (was.timing.start + k) ≡ get_or (w.samples u) k (pos 0)
+      value_now =
+          value_by was.timing was.inputs.items (computed_next_in old u) k late (λ i. input_sound w.samples (input_of (record was { work = p.work }) i)) (λ i. input_sound w.samples (input_of now i)) rest p.work
+          (begins_on was.work p.work (computed_next_in old u) was.timing p.moves unit.begins)
+          (brings_on was.work p.work (computed_next_in old u) was.inputs.items p.moves unit.brings)
+          (hears_on was.work p.work (computed_next_in old u) was.timing was.inputs.items p.moves unit.hears)
+          same_inputs
+          ∙ value_then ∙ value_on_rest ∙ sym (given_samples k (omega (arith, late, forward)) below)
+
+      rest_now : get_or (w.samples u) k (pos 0) ≡ unit_value (kind_of now.work) was.timing (memory_in now.work) (was.timing.start + (filled_in old.store u + 1) * old.block) (map (input_sound w.samples) (readers_of now) ++ rest) (was.timing.start + k)
+      rest_now = sym (
+          (λ i. unit_value (work_kind old new u out f fills i) was.timing (same_memory old new u out f fills i) (was.timing.start + sym next_all i) (all_sounds now p.work (input_count old new u out f fills) i) (was.timing.start + k))
+          ∙ value_now
+          )
+
+    here : NodeMeans part later w u (node_of new [] u now)
+    here =
+        let block = block_same old new u out f fills in
+        let filled = filled_new old new u out f fills in
+        record {
+          len = mine.len;
+          owed = mine.owed;
+          kept = λ j b e. kept_blocks j b e ∙ ap (λ c. nth_block c (w.samples u) j) (sym block);
+          rest = λ k from below.
+              rest_now k (subst (λ c. (filled_in old.store u + 1) * c ≤ k) block (subst (λ c. c * new.block ≤ k) filled from)) below
+              ∙ (λ i. unit_value (kind_of now.work) was.timing (memory_in now.work) (was.timing.start + sym filled i * sym block i) (map (input_sound w.samples) (readers_of now) ++ rest) (was.timing.start + k));
+        }
 
     pub means_still : Means part later w
     means_still v y at =
-        let x = unit_of_node B new later_count later_peak v y at in
-        subst (NodeMeans part later w v) (sym x.2) (elim (cases_eq v u) [
+        let q = unit_of_node B new later_count later_peak v y at in
+        subst (NodeMeans part later w v) (sym q.2) (elim (cases_eq v u) [
           | inl e ↦
-              let is : x.0 ≡ s.now = same_some (sym x.1 ∙ ap (unit_at new) e ∙ s.after) in
-              subst (λ n. NodeMeans part later w n (node_of x.0)) (sym e) (subst (NodeMeans part later w u) (sym (ap node_of is ∙ node_now B old new u out heap fills)) here)
-          | inr ne ↦ other v x.0 ne x.1
+              let is : q.0 ≡ now = same_some (sym q.1 ∙ ap (unit_at new) e ∙ unit_now old new u out f fills) in
+              subst (λ m. NodeMeans part later w m (node_of new [] m q.0)) (sym e) (subst (λ d. NodeMeans part later w u (node_of new [] u d)) (sym is) here)
+          | inr ne ↦ other v q.0 ne q.1
         ])
 
   pub fill_keeps : KeepsMeaning {B = B} (state_of old count peak) (state_of new later_count later_peak)

@@ -1,36 +1,24 @@
 -- What holds of each heap between two calls.
-use Rattle.std.proofs.Common.{◌≡◌, ◌≢◌, inl, inr, ℕ, zero, suc, ◌+◌, ◌-◌, ◌*◌, ◌<◌, ◌≤◌, min, Bool, true, false, cond, ◌&&◌, nat_eq, List, [], ◌∷◌, length, take, get_or, map, replicate, Option, None, Some, is_some, sum, fold, sum_by, refl, sym, ap, subst, ◌∙◌, arith}
-use Rattle.std.proofs.lemmas.List.Sums.{sum_by-cons, get_or-le-sum_by}
-use Rattle.std.proofs.lemmas.Bool.{cases_eq, cases_lt, true≢false, lt-ltb, le-ltb, eq-eqb, ne_eqb, ltb-true}
+use Rattle.std.proofs.Common.{◌≡◌, ◌≢◌, inl, inr, ℕ, zero, suc, ◌+◌, ◌-◌, ◌*◌, ◌<◌, ◌≤◌, min, Bool, true, false, cond, nat_lt, nat_eq, ◌&&◌, List, [], ◌∷◌, length, get_or, map, Option, None, Some, IsSome, is_some, count_by, sum_by, refl, sym, ap, subst, ◌∙◌, arith}
+use Rattle.std.specs.List.{range_with_len, sum}
+use Rattle.std.proofs.lemmas.List.FromFn.{length-map-range_with_len}
+use Rattle.std.proofs.lemmas.List.Sums.{sum_by-cons, fails_before_first, passes_at_first}
+use Rattle.std.proofs.lemmas.Bool.{cases_eq, cases_lt, true≢false, ne_eqb, lt-ltb, le-ltb, ltb-true}
 use Rattle.std.specs.Option.{option_map, option_map_or}
-use Rattle.ny_pool.specs.Blocks.{in_block, free_of}
+use Rattle.ny_list.specs.Store as lists
+use Rattle.ny_list.specs.Store.{ListState, StoreState, CursorState, list_at, least, cursors_of, taken_of}
+use Rattle.ny_list.specs.Laws.{ListLaws}
+use Rattle.ny_list.proofs.IndexLemmas.{same_some, none_some, sum_at, tab_get}
 use Rattle.ny_heap.specs.declared.table.Unit.{Unit as UnitData}
 use Rattle.ny_heap.specs.declared.table.Table.{Table}
-use Rattle.ny_heap.specs.declared.table.ReadBy.{ReadBy}
-use Rattle.ny_heap.specs.declared.table.ReadBy.TheVariants.{Outside, Input, Nobody}
-use Rattle.ny_heap.specs.Heap.{Reader, Node, HeapState, node_at, input_at, is_open, blocks_of, stands_in, is_reader, own_in, readers_in, first_read, first_kept, kept_of, kept_from, live_of}
+use Rattle.ny_heap.specs.Heap.{Reader, Node, HeapState, node_at, input_at, is_open, blocks_of, stands_in, readers_in, first_read, first_kept, kept_of, kept_from, live_of, free_of}
 use Rattle.ny_heap.specs.Reach.{Uses, LeadsIn, IsReachable, NodeLaws, ReaderLaws, HeapLaws}
-use Rattle.ny_heap.specs.Steps.{reader_of}
-use Rattle.ny_heap.specs.Given.{id_in}
-use Rattle.ny_heap.specs.Table.{unit_at, input_of, kept_count, IsTable}
-use Rattle.ny_heap.specs.View.{marks, node_of, state_of, IsTightBy, IsHeap}
-use Rattle.ny_heap.proofs.TableLemmas.{same_some, some_is, within}
-use Rattle.ny_heap.proofs.ViewLemmas.{node_at-state, node_of_unit, unit_of_node, block_at-state, content_gone, content_kept, content_past, length-marks, mark_at, no_marks, uses_input, input_uses}
-
-fold_from : (acc : ℕ) (ns : List ℕ) → fold ◌+◌ acc ns ≡ acc + fold ◌+◌ 0 ns
-fold_from acc [] = omega arith
-fold_from acc (n ∷ ns) = omega (arith, fold_from (acc + n) ns, fold_from (0 + n) ns)
-
-pub index-le-sum : (ns : List ℕ) (k : ℕ) → get_or ns k 0 ≤ sum ns
-index-le-sum [] k = omega arith
-index-le-sum (n ∷ ns) zero = omega (arith, fold_from (0 + n) ns)
-index-le-sum (n ∷ ns) (suc k) = omega (arith, fold_from (0 + n) ns, index-le-sum ns k)
-
-pub sum_zeros : (n : ℕ) → sum (replicate {A = ℕ} n 0) ≡ 0
-sum_zeros zero = refl
-sum_zeros (suc n) = sum_zeros n
-
--- ---- the first block that is read
+use Rattle.ny_heap.specs.Work.{cursor_at}
+use Rattle.ny_heap.specs.Table.{unit_at, timing_at, own_in, own_of, mark_in, len_of, readers_of, IsTable}
+use Rattle.ny_heap.specs.View.{node_of, state_of, outside_in, filled_in, IsHeap}
+use Rattle.ny_heap.proofs.CountLemmas.{some_is, is_some_of}
+use Rattle.ny_heap.proofs.ListLemmas.{mark_is}
+use Rattle.ny_heap.proofs.ViewLemmas.{node_of_unit, unit_of_node, no_unit, block_at-state, uses_input, input_uses, readers_is, filled_is, input_cursor}
 
 -- the first of these blocks with a reader is g, where none before it has one
 pub first_read_is : (f : ℕ → ℕ) (j n g : ℕ) → j ≤ g → g ≤ j + n → ((k : ℕ) → k < g → f k ≡ 0) → (g < j + n → 0 < f g) → first_read f j n ≡ g
@@ -44,72 +32,75 @@ first_read_is f j (suc n) g low high none some = elim (cases_lt j g) [
       ap (λ b. cond b j (first_read f (j + 1) n)) (lt-ltb 0 (f j) (subst (λ k. 0 < f k) e (some (omega arith)))) ∙ sym e
 ]
 
-sum_by_zero : {X : Type 0} (f : X → ℕ) (d : X) (xs : List X) → ((k : ℕ) → k < length xs → f (get_or xs k d) ≡ 0) → sum_by f xs ≡ 0
-sum_by_zero f d [] none = refl
-sum_by_zero f d (x ∷ xs) none = omega (arith, sum_by-cons f x xs, none 0 (omega arith), sum_by_zero f d xs (λ k h. none (suc k) (omega arith)))
+-- ---- the least cursor
 
-is_reader_not : (block len v j : ℕ) (o : Option Reader) → ((r : Reader) → o ≡ Some r → r.node ≡ v → stands_in block len r.place ≢ j) → is_reader block len v j o ≡ 0
-is_reader_not block len v j None not = refl
-is_reader_not block len v j (Some r) not = by_node (nat_eq r.node v) refl
+before_least : (marks : List ℕ) (k : ℕ) → k < least marks → get_or marks k 0 ≡ 0
+before_least marks k h = elim (cases_lt 0 (get_or marks k 0)) [
+  | inl some ↦ absurd (true≢false (sym (lt-ltb 0 (get_or marks k 0) some) ∙ fails_before_first (λ m. nat_lt 0 m) marks k 0 h))
+  | inr none ↦ omega (arith, none)
+]
+
+at_least : (marks : List ℕ) → least marks < length marks → 0 < get_or marks (least marks) 0
+at_least marks h = ltb-true 0 (get_or marks (least marks) 0) (passes_at_first (λ m. nat_lt 0 m) marks 0 h)
+
+sum_by_none : (marks : List ℕ) → ((k : ℕ) → get_or marks k 0 ≡ 0) → sum_by (λ m. m) marks ≡ 0
+sum_by_none [] none = refl
+sum_by_none (m ∷ ms) none = omega (arith, sum_by-cons (λ n. n) m ms, none 0, sum_by_none ms (λ k. none (suc k)))
+
+-- where somebody reads a list, its least cursor stands in one of its blocks or the next one
+least_within : (marks : List ℕ) → 0 < sum marks → least marks < length marks
+least_within marks some = elim (cases_lt (least marks) (length marks)) [
+  | inl h ↦ h
+  | inr past ↦ absurd (omega (arith, some, sum_by_none marks (λ k. zero_at k past)))
+]
   where
-    by_node : (b : Bool) → nat_eq r.node v ≡ b → cond {A = ℕ} (b && nat_eq (stands_in block len r.place) j) 1 0 ≡ 0
-    by_node false e = refl
-    by_node true e = ap (λ b. cond {A = ℕ} b 1 0) (ne_eqb (stands_in block len r.place) j (not r refl (Rattle.std.proofs.lemmas.Bool.eqb-true r.node v e)))
+    zero_at : (k : ℕ) → length marks ≤ least marks → get_or marks k 0 ≡ 0
+    zero_at k past = elim (cases_lt k (length marks)) [
+      | inl h ↦ before_least marks k (omega (arith, h, past))
+      | inr beyond ↦ Rattle.std.proofs.lemmas.List.get_or_past marks k 0 beyond
+    ]
 
-is_reader_yes : (block len v j : ℕ) (r : Reader) → r.node ≡ v → stands_in block len r.place ≡ j → is_reader block len v j (Some r) ≡ 1
-is_reader_yes block len v j r of stands = (λ i. cond {A = ℕ} (eq-eqb r.node v of i && nat_eq (stands_in block len r.place) j) 1 0) ∙ ap (λ b. cond {A = ℕ} b 1 0) (eq-eqb (stands_in block len r.place) j stands)
+-- a sum that is not 0 has a term that is not
+pub some_term : {A : Type 0} (f : A → ℕ) (d : A) (xs : List A) → 0 < sum_by f xs → (k : ℕ) × (k < length xs) × (0 < f (get_or xs k d))
+some_term f d [] some = absurd (omega (arith, some))
+some_term f d (x ∷ xs) some = elim (cases_lt 0 (f x)) [
+  | inl here ↦ (0, omega arith, here)
+  | inr none ↦ later (some_term f d xs (omega (arith, some, none, sum_by-cons f x xs)))
+]
+  where
+    later : ((k : ℕ) × (k < length xs) × (0 < f (get_or xs k d))) → (k : ℕ) × (k < length (x ∷ xs)) × (0 < f (get_or (x ∷ xs) k d))
+    later k = (suc k.0, omega (arith, k.1), k.2)
+
+reads_there : (block len v j : ℕ) (o : Option Reader) → 0 < Rattle.ny_heap.specs.Heap.is_reader block len v j o → (r : Reader) × (o ≡ Some r) × (r.node ≡ v)
+reads_there block len v j None some = absurd (omega (arith, some))
+reads_there block len v j (Some r) some = elim (cases_eq r.node v) [
+  | inl e ↦ (r, refl, e)
+  | inr ne ↦ absurd (omega (arith, some, ap (λ b. cond {A = ℕ} (b && nat_eq (stands_in block len r.place) j) 1 0) (ne_eqb r.node v ne)))
+]
+
+pub unit_reads : (block len v j : ℕ) (o : Option UnitData) → 0 < option_map_or {U = ℕ} (own_of block len v j) o 0 → (x : UnitData) × (i : ℕ) × (c : CursorState) × (o ≡ Some x) × (i < length x.inputs.items) × (cursor_at x.work i ≡ Some c) × (c.list ≡ v)
+unit_reads block len v j None some = absurd (omega (arith, some))
+unit_reads block len v j (Some x) some =
+    let k = some_term (Rattle.ny_heap.specs.Heap.is_reader block len v j) None (readers_of x) some in
+    let r = reads_there block len v j (get_or (readers_of x) k.0 None) k.2 in
+    let c = input_cursor x k.0 r.0 r.1 in
+    (x, k.0, c.0, refl, c.1, c.2, sym (ap (λ (q : Reader). q.node) c.3) ∙ r.2)
 
 module _ (B : Type 0) (t : Table) (heap : IsHeap t) (fills peak : ℕ) where
-  table : IsTable t
+  table : IsTable t []
   table = heap.table
 
-  h : HeapState B
-  h = state_of t fills peak
+  laws_of : (v : ℕ) (l : ListState) → list_at t.store v ≡ Some l → ListLaws t.store.block l
+  laws_of v l is = table.store.lists v l is
 
-  abbrev own : ℕ → UnitData → ℕ → Option (Node B) → ℕ
-  own v x k o = option_map_or (own_in t.block x.timing.len v k) o 0
+  least_filled : (v : ℕ) (l : ListState) → list_at t.store v ≡ Some l → least l.marks ≤ length l.values
+  least_filled v l is = omega (arith, least_within l.marks (heap.read v l is), (laws_of v l is).marks)
 
-  own_zero : (v : ℕ) (x : UnitData) (k : ℕ) → unit_at t v ≡ Some x → k < x.gone → (u : ℕ) (o : Option UnitData) → unit_at t u ≡ o → own v x k (option_map node_of o) ≡ 0
-  own_zero v x k at before u None e = refl
-  own_zero v x k at before u (Some y) e =
-      omega (
-        arith,
-        sum_by_zero (is_reader t.block x.timing.len v k) None (map reader_of y.inputs.items) (λ i inside. is_reader_not t.block x.timing.len v k (input_of y i) (λ r reads of stands.
-            let found = table.finds u i y r e reads in
-            let is : found.0 ≡ x = same_some (sym found.1 ∙ ap (unit_at t) of ∙ at) in
-            absurd (omega (arith, stands, before, subst (λ (q : UnitData). q.gone ≤ stands_in t.block q.timing.len r.place) is found.2.gone)))),
-      )
-
-  pub not_read : (v : ℕ) (x : UnitData) (k : ℕ) → unit_at t v ≡ Some x → k < x.gone → readers_in {B = B} (state_of t fills peak) v (node_of x) k ≡ 0
-  not_read v x k at before =
-      omega (
-        arith,
-        no_marks x.reader (x.filled + 1) k (λ j e same. absurd (omega (arith, before, same, (((table.units v x at).stands j e).0), tight_outside j (heap.tight v x at) e))),
-        sum_by_zero (own v x k) None (map (option_map node_of) t.units) (λ u inside. ap (own v x k) (node_at-state B t fills peak u) ∙ own_zero v x k at before u (unit_at t u) refl),
-      )
-    where
-      tight_outside : (j : ℕ) → IsTightBy t v x x.reader → x.reader ≡ Outside j → x.gone ≡ j
-      tight_outside j tight e = subst (IsTightBy t v x) e tight
-
-  own_here : (v : ℕ) (x y : UnitData) (u i : ℕ) (r : Reader) → unit_at t u ≡ Some y → input_of y i ≡ Some r → r.node ≡ v → x.gone ≡ stands_in t.block x.timing.len r.place → 1 ≤ sum_by (own v x x.gone) (map (option_map node_of) t.units)
-  own_here v x y u i r at reads of stands =
-      let one = is_reader_yes t.block x.timing.len v x.gone r of (sym stands) in
-      let first = get_or-le-sum_by (is_reader t.block x.timing.len v x.gone) (map reader_of y.inputs.items) i None (within (map reader_of y.inputs.items) i (ap is_some reads)) in
-      let node = node_of_unit B t fills peak u y at in
-      let second = get_or-le-sum_by (own v x x.gone) (map (option_map node_of) t.units) u None (within (map (option_map node_of) t.units) u (ap is_some node)) in
-      omega (arith, one, first, ap (is_reader t.block x.timing.len v x.gone) reads, second, ap (own v x x.gone) node)
-
-  pub is_read : (v : ℕ) (x : UnitData) → unit_at t v ≡ Some x → 0 < readers_in {B = B} (state_of t fills peak) v (node_of x) x.gone
-  is_read v x at = by_reader x.reader refl (heap.tight v x at)
-    where
-      by_reader : (q : ReadBy) → x.reader ≡ q → IsTightBy t v x q → 0 < get_or (marks x.reader (x.filled + 1)) x.gone 0 + sum_by (own v x x.gone) (map (option_map node_of) t.units)
-      by_reader (Outside j) e tight = omega (arith, ap (λ p. get_or (marks p (x.filled + 1)) x.gone 0) e, ap (λ k. get_or (marks (Outside j) (x.filled + 1)) k 0) tight, mark_at j (x.filled + 1) (omega (arith, ((table.units v x at).stands j e).1)))
-      by_reader (Input u i) e tight = omega (arith, own_here v x tight.0 u i tight.1 tight.2 tight.3 tight.4 tight.5)
-      by_reader Nobody e tight = absurd tight
-
-  pub first_kept_is : (v : ℕ) (x : UnitData) → unit_at t v ≡ Some x → first_kept {B = B} (state_of t fills peak) v (node_of x) ≡ x.gone
-  first_kept_is v x at =
-      first_read_is (readers_in {B = B} (state_of t fills peak) v (node_of x)) 0 x.filled x.gone (omega arith) (omega (arith, (table.units v x at).kept)) (λ k before. not_read v x k at before) (λ less. is_read v x at)
+  pub first_kept_is : (v : ℕ) (x : UnitData) (l : ListState) → unit_at t v ≡ Some x → list_at t.store v ≡ Some l → first_kept {B = B} (state_of t fills peak) v (node_of t [] v x) ≡ least l.marks
+  first_kept_is v x l at listed =
+      first_read_is (readers_in {B = B} (state_of t fills peak) v (node_of t [] v x)) 0 (filled_in t.store v) (least l.marks) (omega arith) (omega (arith, least_filled v l listed, filled_is t.store v l listed))
+      (λ k before. readers_is B t fills peak v k x l table at listed (omega (arith, before, least_filled v l listed)) ∙ mark_is t.store v k l listed ∙ before_least l.marks k before)
+      (λ less. omega (arith, readers_is B t fills peak v (least l.marks) x l table at listed (least_filled v l listed), mark_is t.store v (least l.marks) l listed, at_least l.marks (least_within l.marks (heap.read v l listed))))
 
   -- ---- each unit is reachable
 
@@ -119,50 +110,81 @@ module _ (B : Type 0) (t : Table) (heap : IsHeap t) (fills peak : ℕ) where
 
   reached_within : (fuel v : ℕ) (x : UnitData) → unit_at t v ≡ Some x → table.bound ≤ table.rank v + fuel → IsReachable {B = B} (state_of t fills peak) v
   reached_within zero v x at near = absurd (omega (arith, table.below v x at))
-  reached_within (suc fuel) v x at near = by_reader (λ u y e close. reached_within fuel u y e close) x.reader refl (heap.tight v x at)
+  reached_within (suc fuel) v x at near = elim (cases_lt 0 (outside_in t [] v j)) [
+    | inl some ↦ (v, record { unit = node_of t [] v x; there = node_of_unit B t fills peak v x at; some = omega (arith, some, marked, sum_at (map (outside_in t [] v) (range_with_len 0 (filled_in t.store v + 1))) j) }, (0, refl))
+    | inr none ↦ by_unit (λ u y e close. reached_within fuel u y e close) (some_term (λ (o : Option UnitData). option_map_or {U = ℕ} (own_of t.block (len_of t.store v) v j) o 0) None t.units.items (omega (arith, none, standing)))
+  ]
     where
-      by_reader : ((u : ℕ) (y : UnitData) → unit_at t u ≡ Some y → table.bound ≤ table.rank u + fuel → IsReachable {B = B} (state_of t fills peak) u) → (q : ReadBy) → x.reader ≡ q → IsTightBy t v x q → IsReachable {B = B} (state_of t fills peak) v
-      by_reader up_from (Outside j) e tight =
-          let within_marks : j < x.filled + 1 = omega (arith, ((table.units v x at).stands j e).1) in
-          let mark = ap (λ p. get_or (marks p (x.filled + 1)) j 0) e ∙ mark_at j (x.filled + 1) within_marks in
-          (v, record { unit = node_of x; there = node_of_unit B t fills peak v x at; some = omega (arith, mark, index-le-sum (marks x.reader (x.filled + 1)) j) }, (0, refl))
-      by_reader up_from (Input u i) e tight =
-          let above = table.falls u i tight.0 tight.1 tight.2 tight.3 in
-          let up = up_from u tight.0 tight.2 (omega (arith, above, ap table.rank tight.4)) in
-          (up.0, up.1, (suc up.2.0, leads_on up.2.0 up.0 u v up.2.1 (input_uses B t fills peak u i v tight.0 tight.1 tight.2 tight.3 tight.4)))
-      by_reader up_from Nobody e tight = absurd tight
+      u_list : (l : ListState) × (list_at t.store v ≡ Some l) × Rattle.ny_heap.specs.Table.IsUnit t v x l
+      u_list = table.units v x at
 
-  node_laws : (v : ℕ) (x : UnitData) → unit_at t v ≡ Some x → NodeLaws {B = B} (state_of t fills peak) v (node_of x)
+      l : ListState
+      l = u_list.0
+
+      listed : list_at t.store v ≡ Some l
+      listed = u_list.1
+
+      j : ℕ
+      j = least l.marks
+
+      marked : get_or (map (outside_in t [] v) (range_with_len 0 (filled_in t.store v + 1))) j 0 ≡ outside_in t [] v j
+      marked = tab_get (outside_in t [] v) (filled_in t.store v + 1) j 0 (omega (arith, least_filled v l listed, filled_is t.store v l listed))
+
+      standing : 0 < outside_in t [] v j + own_in t v j
+      standing = omega (arith, mark_is t.store v j l listed, at_least l.marks (least_within l.marks (heap.read v l listed)))
+
+      by_unit : ((u : ℕ) (y : UnitData) → unit_at t u ≡ Some y → table.bound ≤ table.rank u + fuel → IsReachable {B = B} (state_of t fills peak) u)
+          → ((k : ℕ) × (k < length t.units.items) × (0 < option_map_or {U = ℕ} (own_of t.block (len_of t.store v) v j) (unit_at t k) 0)) → IsReachable {B = B} (state_of t fills peak) v
+      by_unit up_from k =
+          let r = unit_reads t.block (len_of t.store v) v j (unit_at t k.0) k.2 in
+          let above = table.falls k.0 r.1 r.0 r.2 r.3 r.4 r.5 in
+          let up = up_from k.0 r.0 r.3 (omega (arith, above, near, ap table.rank r.6)) in
+          (up.0, up.1, (suc up.2.0, leads_on up.2.0 up.0 k.0 v up.2.1 (subst (Uses {B = B} (state_of t fills peak) k.0) r.6 (input_uses B t fills peak k.0 r.1 r.0 r.2 r.3 r.4 r.5))))
+
+  node_laws : (v : ℕ) (x : UnitData) → unit_at t v ≡ Some x → NodeLaws {B = B} (state_of t fills peak) v (node_of t [] v x)
   node_laws v x at =
       let u = table.units v x at in
+      let laws = laws_of v u.0 u.1 in
+      let filled = filled_is t.store v u.0 u.1 in
+      let first = first_kept_is v x u.0 at u.1 in
       record {
         reached = reached_within table.bound v x at (omega arith);
-        some = u.some;
-        filled = u.filled;
-        marks = length-marks x.reader (x.filled + 1);
-        kept = λ j from to.
-            let past : x.gone ≤ j = omega (arith, first_kept_is v x at) in
-            let inside : j - x.gone < length x.kept.items = omega (arith, u.kept) in
-            let b = some_is (in_block t.pool (id_in x.kept.items (j - x.gone))) (u.taken (j - x.gone) inside) in
-            ap is_some (block_at-state B t fills peak v j x at ∙ content_kept t x j past (omega (arith, u.kept)) ∙ ap (option_map (take (x.timing.len - j * t.block))) b.1);
-        given_back = λ j before. block_at-state B t fills peak v j x at ∙ content_gone t x j (omega (arith, first_kept_is v x at));
-        unfilled = λ j past. block_at-state B t fills peak v j x at ∙ content_past t x j (omega (arith, u.kept));
-        reads_nothing = λ closed i. nothing closed i (input_of x i) refl;
+        some = u.2.some;
+        filled = omega (arith, filled, laws.filled, ap (λ b. blocks_of b u.0.len) table.block, ap (blocks_of t.block) u.2.len);
+        marks = length-map-range_with_len (outside_in t [] v) 0 (filled_in t.store v + 1);
+        kept = λ j from to. subst IsSome (sym (block_at-state B t fills peak v j u.0 u.1)) ((laws.kept j (omega (arith, to, filled))).1 (omega (arith, from, first)));
+        given_back = λ j before. block_at-state B t fills peak v j u.0 u.1 ∙ no_block u.0 laws j (omega (arith, before, first));
+        unfilled = λ j past. block_at-state B t fills peak v j u.0 u.1 ∙ Rattle.std.proofs.lemmas.List.get_or_past u.0.values j None (omega (arith, past, filled));
+        reads_nothing = λ closed i. nothing closed i (get_or (readers_of x) i None) refl;
         waits_for_nothing = λ closed. (refl, refl);
       }
     where
-      nothing : is_open t.block (node_of {B = B} x) ≡ false → (i : ℕ) (o : Option Reader) → input_of x i ≡ o → input_of x i ≡ None
+      no_block : (l : ListState) → ListLaws t.store.block l → (j : ℕ) → j < least l.marks → get_or l.values j None ≡ None
+      no_block l laws j before = by (get_or l.values j None) refl
+        where
+          by : (o : Option (List Rattle.std.proofs.Common.ℤ)) → get_or l.values j None ≡ o → get_or l.values j None ≡ None
+          by None e = e
+          by (Some b) e = elim (cases_lt j (length l.values)) [
+            | inl inside ↦ absurd (omega (arith, before, (laws.kept j inside).0 (is_some_of _ b e)))
+            | inr past ↦ Rattle.std.proofs.lemmas.List.get_or_past l.values j None past
+          ]
+
+      nothing : is_open t.block (node_of {B = B} t [] v x) ≡ false → (i : ℕ) (o : Option Reader) → get_or (readers_of x) i None ≡ o → get_or (readers_of x) i None ≡ None
       nothing closed i None e = e
-      nothing closed i (Some r) e = absurd (true≢false (sym (lt-ltb x.filled (blocks_of t.block x.timing.len) (heap.clean v x at i r e).1) ∙ closed))
+      nothing closed i (Some r) e =
+          let c = input_cursor x i r e in
+          absurd (true≢false (sym (lt-ltb (filled_in t.store v) (blocks_of t.block x.timing.len) (heap.clean v i x c.0 at c.1 c.2).1) ∙ closed))
 
   pub heap_laws : HeapLaws {B = B} (state_of t fills peak)
   heap_laws = record {
-    positive = table.positive;
+    positive = omega (arith, table.store.some, table.block);
     nodes = λ v y at. let x = unit_of_node B t fills peak v y at in subst (NodeLaws {B = B} (state_of t fills peak) v) (sym x.2) (node_laws v x.0 x.1);
     finds = λ u v uses.
-        let reads = uses_input B t fills peak u v uses in
-        let found = table.finds u reads.1 reads.0 reads.2 reads.3 reads.4 in
-        ap is_some (ap (node_at {B = B} (state_of t fills peak)) (sym reads.5) ∙ node_of_unit B t fills peak reads.2.node found.0 found.1);
+        let r = uses_input B t fills peak u v uses in
+        let w = table.units u r.0 r.3 in
+        let a = table.inputs u r.1 r.0 w.0 r.2 r.3 w.1 r.4 r.5 in
+        let y = some_is (unit_at t r.2.list) (table.lists r.2.list (is_some_of _ a.0 a.1)) in
+        is_some_of _ _ (ap (node_at {B = B} (state_of t fills peak)) (sym r.6) ∙ node_of_unit B t fills peak r.2.list y.0 y.1);
     readers = λ u i x y r at_u input at_r.
         let p = unit_of_node B t fills peak u x at_u in
         let q = unit_of_node B t fills peak r.node y at_r in
@@ -170,40 +192,67 @@ module _ (B : Type 0) (t : Table) (heap : IsHeap t) (fills peak : ℕ) where
     rank = table.rank;
     bound = table.bound;
     below = λ u y at. let x = unit_of_node B t fills peak u y at in table.below u x.0 x.1;
-    falls = λ u v uses. let reads = uses_input B t fills peak u v uses in omega (arith, table.falls u reads.1 reads.0 reads.2 reads.3 reads.4, ap table.rank reads.5);
+    falls = λ u v uses. let r = uses_input B t fills peak u v uses in omega (arith, table.falls u r.1 r.0 r.2 r.3 r.4 r.5, ap table.rank r.6);
   }
     where
-      readers : (u i : ℕ) (x y : Node B) (r : Reader) (p q : UnitData) → unit_at t u ≡ Some p → x ≡ node_of p → unit_at t r.node ≡ Some q → y ≡ node_of q → input_of p i ≡ Some r → ReaderLaws {B = B} (state_of t fills peak) x r y
+      readers : (u i : ℕ) (x y : Node B) (r : Reader) (p q : UnitData) → unit_at t u ≡ Some p → x ≡ node_of t [] u p → unit_at t r.node ≡ Some q → y ≡ node_of t [] r.node q → get_or (readers_of p) i None ≡ Some r → ReaderLaws {B = B} (state_of t fills peak) x r y
       readers u i x y r p q at_p is_x at_q is_y input =
-          let found = table.finds u i p r at_p input in
-          let same : found.0 ≡ q = same_some (sym found.1 ∙ at_q) in
-          subst (λ z. ReaderLaws {B = B} (state_of t fills peak) z r y) (sym is_x) (subst (ReaderLaws {B = B} (state_of t fills peak) (node_of p) r) (sym is_y) (record {
-            sees = omega (arith, found.2.sees, ap (λ (z : UnitData). z.timing.len) same);
-            at_need = found.2.at_need;
-            more = (heap.clean u p at_p i r input).0;
-            computed = subst (λ (z : UnitData). r.place ≤ min (z.filled * t.block) z.timing.len) same found.2.computed;
+          let c = input_cursor p i r input in
+          let w = table.units u p at_p in
+          let a = table.inputs u i p w.0 c.0 at_p w.1 c.1 c.2 in
+          let z = table.units r.node q at_q in
+          let node : r.node ≡ c.0.list = ap (λ (k : Reader). k.node) c.3 in
+          let place : r.place ≡ c.0.place = ap (λ (k : Reader). k.place) c.3 in
+          let timing : r.timing ≡ timing_at p i = ap (λ (k : Reader). k.timing) c.3 in
+          let same : z.0 ≡ a.0 = same_some (sym z.1 ∙ ap (list_at t.store) node ∙ a.1) in
+          let len : a.0.len ≡ q.timing.len = sym (ap (λ (k : ListState). k.len) same) ∙ z.2.len in
+          let filled : filled_in t.store r.node ≡ length a.0.values = filled_is t.store r.node z.0 z.1 ∙ ap (λ (k : ListState). length k.values) same in
+          subst (λ n. ReaderLaws {B = B} (state_of t fills peak) n r y) (sym is_x) (subst (ReaderLaws {B = B} (state_of t fills peak) (node_of t [] u p) r) (sym is_y) (record {
+            sees = omega (arith, a.2.sees, a.2.visible, len, ap (λ (k : Rattle.ny_num.specs.declared.timing.Timing.Timing). k.len) timing);
+            at_need = place ∙ heap.needs u i p c.0 at_p c.1 c.2 ∙ ap (λ (k : Rattle.ny_num.specs.declared.timing.Timing.Timing). Rattle.ny_heap.specs.Heap.taken_after t.block (Rattle.ny_heap.specs.Work.kind_of p.work) p.timing k (filled_in t.store u)) (sym timing);
+            more = omega (arith, (heap.clean u i p c.0 at_p c.1 c.2).0, a.2.sees, place, ap (λ (k : Rattle.ny_num.specs.declared.timing.Timing.Timing). k.len) timing);
+            computed = subst (λ n. n ≤ min (filled_in t.store r.node * t.block) q.timing.len) (sym place)
+                (subst (λ n. c.0.place ≤ min (n * t.block) q.timing.len) (sym filled) (subst (λ n. c.0.place ≤ min (length a.0.values * t.block) n) len a.2.computed));
           }))
 
   -- ---- how many blocks are taken
 
-  kept_sum : (k : ℕ) (os : List (Option UnitData)) → ((i : ℕ) (x : UnitData) → get_or os i None ≡ Some x → unit_at t (k + i) ≡ Some x) → kept_from {B = B} (state_of t fills peak) k (map (option_map node_of) os) ≡ sum_by kept_count os
-  kept_sum k [] there = refl
-  kept_sum k (o ∷ os) there = omega (arith, one o refl, kept_sum (suc k) os (λ i x e. ap (unit_at t) (next i) ∙ there (suc i) x e), sum_by-cons kept_count o os)
-    where
-      next : (i : ℕ) → suc k + i ≡ k + suc i
-      next i = omega arith
+  kept_sum : (k : ℕ) (os : List (Option (Node B))) (ls : List (Option ListState)) → ((i : ℕ) → kept_of {B = B} (state_of t fills peak) (k + i) (get_or os i None) ≡ option_map_or {U = ℕ} lists.kept_of (get_or ls i None) 0)
+      → kept_from {B = B} (state_of t fills peak) k os ≡ sum_by (λ (o : Option ListState). option_map_or {U = ℕ} lists.kept_of o 0) ls
+  kept_sum k [] [] same = refl
+  kept_sum k [] (l ∷ ls) same = omega (arith, sum_by-cons (λ (o : Option ListState). option_map_or {U = ℕ} lists.kept_of o 0) l ls, same 0, kept_sum k [] ls (λ i. same (suc i)))
+  kept_sum k (o ∷ os) [] same =
+      let first : k + 0 ≡ k = omega arith in
+      omega (arith, ap (λ n. kept_of {B = B} (state_of t fills peak) n o) first, same 0, kept_sum (suc k) os [] (λ i. let next : suc k + i ≡ k + suc i = omega arith in ap (λ n. kept_of {B = B} (state_of t fills peak) n (get_or os i None)) next ∙ same (suc i)))
+  kept_sum k (o ∷ os) (l ∷ ls) same =
+      let first : k + 0 ≡ k = omega arith in
+      omega (
+        arith,
+        ap (λ n. kept_of {B = B} (state_of t fills peak) n o) first,
+        same 0,
+        sum_by-cons (λ (q : Option ListState). option_map_or {U = ℕ} lists.kept_of q 0) l ls,
+        kept_sum (suc k) os ls (λ i. let next : suc k + i ≡ k + suc i = omega arith in ap (λ n. kept_of {B = B} (state_of t fills peak) n (get_or os i None)) next ∙ same (suc i)),
+      )
 
-      one : (q : Option UnitData) → o ≡ q → kept_of {B = B} (state_of t fills peak) k (option_map node_of q) ≡ kept_count q
-      one None e = refl
-      one (Some x) e =
-          let at : unit_at t k ≡ Some x = ap (unit_at t) here ∙ there 0 x e in
-          omega (arith, first_kept_is k x at, (table.units k x at).kept)
+  pub live_is : live_of {B = B} (state_of t fills peak) ≡ taken_of t.store
+  live_is =
+      omega (
+        arith,
+        kept_sum 0 (map (λ w. option_map (node_of {B = B} t [] w) (unit_at t w)) (range_with_len 0 (length t.units.items))) t.store.lists (λ i. let e : 0 + i ≡ i = omega arith in ap (λ n. kept_of {B = B} (state_of t fills peak) n (node_at {B = B} (state_of t fills peak) i)) e ∙ each i (unit_at t i) refl),
+        table.loose,
+      )
+    where
+      each : (i : ℕ) (o : Option UnitData) → unit_at t i ≡ o → kept_of {B = B} (state_of t fills peak) i (node_at {B = B} (state_of t fills peak) i) ≡ option_map_or {U = ℕ} lists.kept_of (list_at t.store i) 0
+      each i (Some x) at =
+          let u = table.units i x at in
+          ap (kept_of {B = B} (state_of t fills peak) i) (node_of_unit B t fills peak i x at)
+          ∙ ap (λ n. n - first_kept {B = B} (state_of t fills peak) i (node_of t [] i x)) (filled_is t.store i u.0 u.1)
+          ∙ ap (λ n. length u.0.values - n) (first_kept_is i x u.0 at u.1)
+          ∙ sym (ap (λ (q : Option ListState). option_map_or {U = ℕ} lists.kept_of q 0) u.1)
+      each i None at =
+          ap (kept_of {B = B} (state_of t fills peak) i) (Rattle.ny_heap.proofs.ViewLemmas.no_node B t fills peak i at)
+          ∙ sym (ap (λ (q : Option ListState). option_map_or {U = ℕ} lists.kept_of q 0) (no_list (list_at t.store i) refl))
         where
-          here : k ≡ k + 0
-          here = omega arith
-
-  pub live_is : free_of t.pool + live_of {B = B} (state_of t fills peak) ≡ length t.pool.blocks
-  live_is = omega (arith, kept_sum 0 t.units (λ i x e. ap (unit_at t) (first i) ∙ e), table.counted)
-    where
-      first : (i : ℕ) → 0 + i ≡ i
-      first i = omega arith
+          no_list : (q : Option ListState) → list_at t.store i ≡ q → list_at t.store i ≡ None
+          no_list None e = e
+          no_list (Some l) e = let x = some_is (unit_at t i) (table.lists i (is_some_of _ l e)) in absurd (none_some (sym at ∙ x.1))

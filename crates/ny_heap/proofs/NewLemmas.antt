@@ -1,174 +1,115 @@
 -- What a new unit is to a contract.
-use Rattle.std.proofs.Common.{◌≡◌, ◌≢◌, ◌⊎◌, inl, inr, ℕ, suc, ◌+◌, ◌-◌, ◌*◌, ◌<◌, ◌≤◌, min, cond, List, [], ◌∷◌, ◌++◌, length, drop, get_or, map, Option, None, Some, refl, sym, ap, subst, ◌∙◌, arith, ℤ, pos}
-use Rattle.std.proofs.lemmas.List.FromFn.{length-map-range_with_len, get_or-map-range_with_len}
-use Rattle.std.proofs.lemmas.Bool.{cases_eq, eq-eqb, ne_eqb}
-use Rattle.std.proofs.lemmas.Nat.{le-div}
+use Rattle.std.proofs.Common.{◌≡◌, ◌≢◌, inl, inr, ℕ, suc, ◌+◌, ◌*◌, ◌<◌, ◌≤◌, cond, List, [], ◌∷◌, ◌++◌, length, get_or, map, Option, None, Some, refl, sym, ap, subst, ◌∙◌, arith, ℤ, pos}
+use Rattle.std.specs.List.{range_with_len}
 use Rattle.std.specs.Option.{option_map, option_map_or}
+use Rattle.std.proofs.lemmas.List.{ext_get_or, get_or-map, length-map}
+use Rattle.std.proofs.lemmas.List.FromFn.{length-map-range_with_len, get_or-map-range_with_len}
+use Rattle.std.proofs.lemmas.Bool.{eq-eqb, ne_eqb}
 use Rattle.ny_num.specs.Sound as sounds
-use Rattle.ny_num.specs.declared.timing.Timing.{Timing}
+use Rattle.ny_list.specs.Store.{CursorState, list_at}
+use Rattle.ny_list.specs.Steps.{begun}
+use Rattle.ny_list.proofs.IndexLemmas.{none_some, tab_get, tab_same}
 use Rattle.ny_heap.specs.declared.sound.Sound.{Sound}
 use Rattle.ny_heap.specs.declared.table.Unit.{Unit as UnitData}
 use Rattle.ny_heap.specs.declared.table.Table.{Table}
-use Rattle.ny_heap.specs.declared.table.ReadBy.{ReadBy}
-use Rattle.ny_heap.specs.declared.table.ReadBy.TheVariants.{Outside, Input, Nobody}
-use Rattle.ny_heap.specs.Heap.{Kind, Reader, Node, HeapState, blocks_of, stands_in}
+use Rattle.ny_heap.specs.Heap.{Reader, Node}
 use Rattle.ny_heap.specs.Means.{Parts, Whole, Means, NodeMeans, input_sound, unit_value, all_inputs, nth_block, with_samples, whole_list}
-use Rattle.ny_heap.specs.Steps.{reader_of, without_sounds, new_node, AddsNode, made_inputs, last_stop_of}
-use Rattle.ny_heap.specs.Table.{unit_at, input_of, kind_of, HasGiven, IsInStep, IsTable, list_in, AreSpent, Grows, IsBlank, Adds, Drops}
-use Rattle.ny_heap.specs.View.{marks, node_of, state_of, IsTightBy, IsTight, IsClean, IsHeap}
-use Rattle.ny_heap.proofs.TableLemmas.{same_some, none_some, some_is}
-use Rattle.ny_heap.proofs.PlayLemmas.{in_step}
-use Rattle.ny_heap.proofs.DropLemmas.{list_of_reader, reader_in}
-use Rattle.ny_heap.proofs.ViewLemmas.{node_at-state, node_of_unit, unit_of_node, no_node, block_at-state, content_past}
-use Rattle.ny_heap.proofs.StepLemmas.{content_part}
-use Rattle.ny_heap.proofs.SpentLemmas.{Spends, is_listed}
+use Rattle.ny_heap.specs.Steps.{reader_of, new_node, AddsNode, made_inputs, last_stop_of, first_memory}
+use Rattle.ny_heap.specs.Work.{kind_of, memory_in}
+use Rattle.ny_heap.specs.Table.{unit_at, timing_at, input_of, readers_of, IsTable}
+use Rattle.ny_heap.specs.View.{node_of, state_of, state_with, outside_in, filled_in, last_stop_in}
+use Rattle.ny_heap.specs.Making.{Adds}
+use Rattle.ny_heap.proofs.ListLemmas.{mark_is}
+use Rattle.ny_heap.proofs.ViewLemmas.{node_of_unit, unit_of_node, block_at-state, input_cursor}
+use Rattle.ny_heap.proofs.StepLemmas.{node_at-with}
+use Rattle.ny_heap.proofs.SoundLemmas.{cursors_in}
+use Rattle.ny_heap.proofs.AddLemmas.{reads_as, sound_at, timed, absent, unit_new, unit_else, list_new, list_else, mark_else, filled_new, filled_else, cursor_is, timing_is, own_else, own_new, unit_back}
 
-some_blocks : (block len : ℕ) → 0 < block → 0 < len → 0 < blocks_of block len
-some_blocks block len positive some = le-div 1 (len + (block - 1)) block positive (omega arith)
+-- where an input reads, as a contract sees it
+reads_is : (s : Sound) (o : Option CursorState) → s.reader ≡ o → option_map {U = Reader} (λ c. record { node = c.list; place = c.place; timing = s.timing }) (reads_as (record s { reader = o })) ≡ reader_of (record s { reader = o })
+reads_is s None e = refl
+reads_is s (Some c) e = refl
 
-module _ (old mid new : Table) (n : ℕ) (kind : Kind) (timing : Timing) (ss : List Sound) (heap : IsHeap old) (grows : Grows old mid) (spent : AreSpent old ss) (adds : Adds mid new n kind timing ss) (some : 0 < timing.len) where
-  block_now : new.block ≡ old.block
-  block_now = adds.block ∙ grows.block
+stops : (stop : ℕ) (ss : List Sound) → last_stop_in stop (map (λ (s : Sound). s.timing) ss) ≡ last_stop_of stop ss
+stops stop [] = refl
+stops stop (s ∷ ss) = stops s.timing.stop ss
 
-  pub fresh : unit_at old n ≡ None
-  fresh = sym (grows.units n) ∙ adds.vacant
+module _ (old new : Table) (n : ℕ) (x : UnitData) (ss : List Sound) (a : Adds old new n x ss) (table : IsTable old (cursors_in ss)) where
+  input_is : (i : ℕ) (s : Sound) → i < length ss → s ≡ get_or ss i s → input_of x i ≡ reader_of s
+  input_is i s inside is =
+      ap (option_map {U = Reader} (λ c. record { node = c.list; place = c.place; timing = timing_at x i })) (cursor_is old new n x ss a table i s inside is)
+      ∙ ap (λ t. option_map {U = Reader} (λ c. record { node = c.list; place = c.place; timing = t }) (reads_as s)) (timing_is old new n x ss a table i s inside is)
+      ∙ reads_is s s.reader refl
 
-  -- a unit other than the new one was there
-  record Was (v : ℕ) (y : UnitData) : Type 0 where
-    pub unit : UnitData
-    pub there : unit_at old v ≡ Some unit
-    pub is : y ≡ record unit { reader = y.reader }
-    pub by : ((j : ℕ) × (list_in ss j ≡ Some v) × (y.reader ≡ Input n j)) ⊎ (((j : ℕ) → list_in ss j ≢ Some v) × (y.reader ≡ unit.reader))
+  inputs_many : length x.inputs.items ≡ length ss
+  inputs_many = ap length a.inputs ∙ timed ss
 
-  was : (v : ℕ) (y : UnitData) → v ≢ n → unit_at new v ≡ Some y → Was v y
-  was v y ne at = elim (is_listed ss v) [
-    | inl l ↦
-        let x = some_is (unit_at old v) (spent.lost.there l.0 v l.1) in
-        let e : y ≡ record x.0 { reader = Input n l.0 } = same_some (sym at ∙ adds.marked l.0 v x.0 l.1 (grows.units v ∙ x.1)) in
-        let r : y.reader ≡ Input n l.0 = ap (λ (q : UnitData). q.reader) e in
-        record { unit = x.0; there = x.1; is = e ∙ ap (λ q. record x.0 { reader = q }) (sym r); by = inl (l.0, l.1, r) }
-    | inr un ↦ record { unit = y; there = sym (grows.units v) ∙ sym (adds.others v ne un) ∙ at; is = refl; by = inr (un, refl) }
-  ]
-
-  -- a unit that was there is still
-  now : (v : ℕ) (x : UnitData) → unit_at old v ≡ Some x → (y : UnitData) × (unit_at new v ≡ Some y) × (y ≡ record x { reader = y.reader })
-  now v x at = elim (is_listed ss v) [
-    | inl l ↦ (record x { reader = Input n l.0 }, adds.marked l.0 v x l.1 (grows.units v ∙ at), refl)
-    | inr un ↦ (x, adds.others v (λ e. none_some (sym fresh ∙ ap (unit_at old) (sym e) ∙ at)) un ∙ grows.units v ∙ at, refl)
-  ]
-
-  input_new : (i : ℕ) → input_of adds.unit i ≡ get_or (map reader_of ss) i None
-  input_new i = ap (λ qs. get_or (map reader_of qs) i None) adds.inputs
-
-  tight_old : (v : ℕ) (x : UnitData) (q : ReadBy) → IsTightBy old v x q → IsTightBy new v x q
-  tight_old v x (Outside j) t = t
-  tight_old v x (Input u i) t =
-      let z = now u t.0 t.2 in
-      (z.0, t.1, z.1, ap (λ (p : UnitData). input_of p i) z.2 ∙ t.3, t.4, t.5 ∙ ap (λ b. stands_in b x.timing.len t.1.place) (sym block_now))
-  tight_old v x Nobody t = t
-
-  tight_other : (v : ℕ) (y : UnitData) (w : Was v y) → IsTight new v y
-  tight_other v y w = elim w.by [
-    | inl l ↦
-        let r = reader_in ss l.0 v l.1 in
-        let f = spent.first l.0 r.0 w.unit r.1 (ap (unit_at old) r.2 ∙ w.there) in
-        let g : w.unit.gone ≡ stands_in old.block w.unit.timing.len 0 = subst (IsTightBy old v w.unit) f.0 (heap.tight v w.unit w.there) in
-        subst (IsTightBy new v y) (sym l.2) (adds.unit, r.0, adds.there, input_new l.0 ∙ r.1, r.2, ap (λ (q : UnitData). q.gone) w.is ∙ g ∙ ap (λ (q : UnitData). stands_in old.block q.timing.len 0) (sym w.is) ∙ ap (λ p. stands_in old.block y.timing.len p) (sym (spent.begins l.0 r.0 r.1)) ∙ ap (λ b. stands_in b y.timing.len r.0.place) (sym block_now))
-    | inr u ↦ subst (λ x. IsTightBy new v x y.reader) (sym w.is) (subst (IsTightBy new v (record w.unit { reader = y.reader })) (sym u.1) (by_kind w.unit.reader (tight_old v w.unit w.unit.reader (heap.tight v w.unit w.there))))
-  ]
+  readers_new : readers_of x ≡ map reader_of ss
+  readers_new =
+      ext_get_or None (readers_of x) (map reader_of ss)
+      (length-map-range_with_len (input_of x) 0 (length x.inputs.items) ∙ inputs_many ∙ sym (length-map ss reader_of))
+      (λ i h. each i (omega (arith, h, length-map-range_with_len (input_of x) 0 (length x.inputs.items), inputs_many)))
     where
-      by_kind : (q : ReadBy) → IsTightBy new v w.unit q → IsTightBy new v (record w.unit { reader = y.reader }) q
-      by_kind (Outside j) t = t
-      by_kind (Input u i) t = t
-      by_kind Nobody t = t
+      each : (i : ℕ) → i < length ss → get_or (readers_of x) i None ≡ get_or (map reader_of ss) i None
+      each i inside =
+          let s = sound_at ss i inside in
+          tab_get (input_of x) (length x.inputs.items) i None (omega (arith, inside, inputs_many)) ∙ input_is i s.0 inside s.1 ∙ ap reader_of s.1 ∙ sym (get_or-map reader_of ss i s.0 None inside)
 
-  clean_other : (v : ℕ) (y : UnitData) (w : Was v y) → IsClean new y
-  clean_other v y w i r reads =
-      let c = heap.clean v w.unit w.there i r (ap (λ (q : UnitData). input_of q i) (sym w.is) ∙ reads) in
-      (c.0, subst (λ b. y.filled < blocks_of b y.timing.len) (sym block_now) (subst (λ (q : UnitData). q.filled < blocks_of old.block q.timing.len) (sym w.is) c.1))
+  -- one sound stands at its beginning
+  marks_new : map (outside_in new [] n) (range_with_len 0 (filled_in new.store n + 1)) ≡ 1 ∷ []
+  marks_new =
+      ap (λ k. map (outside_in new [] n) (range_with_len 0 (k + 1))) (filled_new old new n x ss a table)
+      ∙ ap (λ (m : ℕ). m ∷ []) (omega (arith, mark_is new.store n 0 (begun x.timing.len 0) (list_new old new n x ss a table), own_new old new n x ss a table 0))
 
-  clean_new : IsClean new adds.unit
-  clean_new i r reads =
-      let at = sym (input_new i) ∙ reads in
-      let l = list_of_reader ss i r at in
-      let x = some_is (unit_at old r.node) (spent.lost.there i r.node l.0) in
-      let f = spent.first i r x.0 at x.1 in
-      (omega (arith, f.2, spent.begins i r at), omega (arith, adds.blank.filled, ap (λ (t : Timing). blocks_of new.block t.len) adds.blank.heard, some_blocks new.block timing.len adds.table.positive some))
+  -- who else reads the other lists reads them still
+  outside_else : (v j : ℕ) → v ≢ n → outside_in new [] v j ≡ outside_in old (cursors_in ss) v j
+  outside_else v j ne = omega (arith, mark_else old new n x ss a table v j ne, own_else old new n x ss a table v j ne)
 
-  tight_new : IsTight new n adds.unit
-  tight_new = subst (IsTightBy new n adds.unit) (sym adds.blank.outside) adds.blank.gone
-
-  steps_new : IsInStep new.block adds.unit
-  steps_new = subst (λ (p : Timing × ℕ). HasGiven adds.unit.work p.0.len (min (p.1 * new.block) p.0.len)) (λ i. (sym adds.blank.heard i, sym adds.blank.filled i)) (subst (HasGiven adds.unit.work timing.len) none adds.blank.given)
-    where
-      none : 0 ≡ min (0 * new.block) timing.len
-      none = omega arith
-
-  steps_other : (v : ℕ) (y : UnitData) (w : Was v y) → IsInStep new.block y
-  steps_other v y w = in_step old.block new.block w.unit y block_now (ap (λ (q : UnitData). q.work) w.is) (ap (λ (q : UnitData). q.timing) w.is) (ap (λ (q : UnitData). q.filled) w.is) (heap.steps v w.unit w.there)
-
-  pub IsHeap-adds : IsHeap new
-  IsHeap-adds = record {
-    table = adds.table;
-    tight = λ v y at. elim (cases_eq v n) [
-      | inl e ↦ subst (λ (p : ℕ × UnitData). IsTight new p.0 p.1) (λ i. (sym e i, same_some (sym adds.there ∙ ap (unit_at new) (sym e) ∙ at) i)) tight_new
-      | inr ne ↦ tight_other v y (was v y ne at)
-    ];
-    clean = λ v y at. elim (cases_eq v n) [
-      | inl e ↦ subst (IsClean new) (same_some (sym adds.there ∙ ap (unit_at new) (sym e) ∙ at)) clean_new
-      | inr ne ↦ clean_other v y (was v y ne at)
-    ];
-    steps = λ v y at. elim (cases_eq v n) [
-      | inl e ↦ subst (IsInStep new.block) (same_some (sym adds.there ∙ ap (unit_at new) (sym e) ∙ at)) steps_new
-      | inr ne ↦ steps_other v y (was v y ne at)
-    ];
-  }
-
-  module _ (B : Type 0) (fills peak : ℕ) (gives : Spends B old fills peak ss) where
-    node_is : node_of {B = B} adds.unit ≡ new_node kind timing ss []
-    node_is i = record {
-      kind = adds.blank.does i;
-      timing = adds.blank.heard i;
-      filled = adds.blank.filled i;
-      inputs = map reader_of (adds.inputs i);
-      memory = [];
-      last_stop = last_stop_of 0 (adds.inputs i);
+  module _ (B : Type 0) (fills peak : ℕ) where
+    pub node_new : node_of {B = B} new [] n x ≡ new_node (kind_of x.work) x.timing ss []
+    node_new i = record {
+      kind = kind_of x.work;
+      timing = x.timing;
+      filled = filled_new old new n x ss a table i;
+      inputs = readers_new i;
+      memory = a.memory i;
+      last_stop = (ap (last_stop_in 0) a.inputs ∙ stops 0 ss) i;
       waiting = [];
       pending = 0;
-      outside = marks (adds.blank.outside i) (adds.blank.filled i + 1);
+      outside = marks_new i;
     }
 
-    unlisted_new : (j : ℕ) → list_in ss j ≢ Some n
-    unlisted_new j e = let x = some_is (unit_at old n) (spent.lost.there j n e) in none_some (sym fresh ∙ x.1)
+    node_same : (v : ℕ) → v ≢ n → (o : Option UnitData) → option_map (node_of {B = B} new [] v) o ≡ option_map (node_of {B = B} old (cursors_in ss) v) o
+    node_same v ne None = refl
+    node_same v ne (Some y) = λ i. Some (record (node_of {B = B} old (cursors_in ss) v y) { filled = filled_else old new n x ss a table v ne i; outside = marks i })
+      where
+        marks : map (outside_in new [] v) (range_with_len 0 (filled_in new.store v + 1)) ≡ map (outside_in old (cursors_in ss) v) (range_with_len 0 (filled_in old.store v + 1))
+        marks =
+            tab_same (outside_in new [] v) (outside_in old (cursors_in ss) v) (filled_in new.store v + 1) 0 (λ j h. outside_else v j ne)
+            ∙ ap (λ k. map (outside_in old (cursors_in ss) v) (range_with_len 0 (k + 1))) (filled_else old new n x ss a table v ne)
 
-    pub adds_node : AddsNode (without_sounds {B = B} (state_of old fills peak) ss) (state_of new fills peak) n (new_node kind timing ss [])
+    pub adds_node : AddsNode {B = B} (state_with old (cursors_in ss) fills peak) (state_of new fills peak) n (new_node (kind_of x.work) x.timing ss [])
     adds_node = record {
-      size = record {
-        pool = ap (λ p. length p.blocks) (adds.pool ∙ grows.pool) ∙ ap (λ (q : HeapState B). q.pool) (sym gives.is);
-        block = block_now ∙ ap (λ (q : HeapState B). q.block) (sym gives.is);
-      };
-      fills = ap (λ (q : HeapState B). q.fills) (sym gives.is);
-      peak = ap (λ (q : HeapState B). q.peak) (sym gives.is);
-      fresh = gives.others n unlisted_new ∙ no_node B old fills peak n fresh;
-      after = node_of_unit B new fills peak n adds.unit adds.there ∙ ap Some node_is;
-      others = λ v ne. elim (is_listed ss v) [
-        | inl l ↦
-            let x = some_is (unit_at old v) (spent.lost.there l.0 v l.1) in
-            node_of_unit B new fills peak v (record x.0 { reader = Input n l.0 }) (adds.marked l.0 v x.0 l.1 (grows.units v ∙ x.1)) ∙ sym (gives.listed l.0 v x.0 l.1 x.1)
-        | inr un ↦ node_at-state B new fills peak v ∙ ap (option_map node_of) (adds.others v ne un ∙ grows.units v) ∙ sym (node_at-state B old fills peak v) ∙ sym (gives.others v un)
-      ];
+      size = record { pool = ap (λ s. length s.loose) a.store; block = a.block };
+      fills = refl;
+      peak = refl;
+      fresh = node_at-with B old (cursors_in ss) fills peak n ∙ ap (option_map (node_of {B = B} old (cursors_in ss) n)) (absent old new n x ss a table);
+      after = node_of_unit B new fills peak n x (unit_new old new n x ss a table) ∙ ap Some node_new;
+      others = λ v ne.
+          node_at-with B new [] fills peak v ∙ ap (option_map (node_of {B = B} new [] v)) (unit_else old new n x ss a table v ne) ∙ node_same v ne (unit_at old v)
+          ∙ sym (node_at-with B old (cursors_in ss) fills peak v);
     }
 
     -- ---- what its list holds
-    module _ (part : Parts B) (w : Whole) (means : Means part (state_of old fills peak) w) where
+    module _ (now : IsTable new []) (part : Parts B) (w : Whole) (means : Means part (state_of old fills peak) w) where
       abbrev given : List (Option sounds.Sound)
       given = made_inputs {B = B} part w ss []
 
       abbrev list : List ℤ
-      list = whole_list kind timing (made_inputs {B = B} part w ss [])
+      list = whole_list (kind_of x.work) x.timing (first_memory (kind_of x.work) ss) (made_inputs {B = B} part w ss [])
 
-      abbrev later : Whole
-      later = with_samples w n (whole_list kind timing (made_inputs {B = B} part w ss []))
+      abbrev pub later : Whole
+      later = with_samples w n (whole_list (kind_of x.work) x.timing (first_memory (kind_of x.work) ss) (made_inputs {B = B} part w ss []))
 
       same_samples : (v : ℕ) → v ≢ n → later.samples v ≡ w.samples v
       same_samples v ne = ap (λ b. cond b list (w.samples v)) (ne_eqb v n ne)
@@ -186,68 +127,63 @@ module _ (old mid new : Table) (n : ℕ) (kind : Kind) (timing : Timing) (ss : L
       heard_same None not = refl
       heard_same (Some r) not = ap (λ xs. Some (record { rate = r.timing.rate; start = r.timing.start; stop = r.timing.stop; samples = Rattle.std.specs.Prelude.take r.timing.len xs })) (same_samples r.node (not r refl))
 
-      all_heard : (qs : List Sound) → ((i : ℕ) (r : Reader) → get_or (map reader_of qs) i None ≡ Some r → r.node ≢ n) → map (input_sound later.samples) (map reader_of qs) ≡ map (input_sound w.samples) (map reader_of qs)
+      all_heard : (rs : List (Option Reader)) → ((i : ℕ) (r : Reader) → get_or rs i None ≡ Some r → r.node ≢ n) → map (input_sound later.samples) rs ≡ map (input_sound w.samples) rs
       all_heard [] not = refl
-      all_heard (q ∷ qs) not = (λ i. heard_same (reader_of q) (not 0) i ∷ all_heard qs (λ j. not (suc j)) i)
+      all_heard (r ∷ rs) not = (λ i. heard_same r (not 0) i ∷ all_heard rs (λ j. not (suc j)) i)
 
       fused : (qs : List Sound) → map (input_sound w.samples) (map reader_of qs) ≡ map (λ s. input_sound w.samples (reader_of s)) qs
       fused [] = refl
       fused (q ∷ qs) = ap (λ rest. input_sound w.samples (reader_of q) ∷ rest) (fused qs)
 
-      -- what is read is not the new unit
-      not_new : (v i : ℕ) (x : UnitData) (r : Reader) → unit_at old v ≡ Some x → input_of x i ≡ Some r → r.node ≢ n
-      not_new v i x r at reads e = let f = heap.table.finds v i x r at reads in none_some (sym fresh ∙ ap (unit_at old) (sym e) ∙ f.1)
+      -- what is read is not the new list
+      apart : (v : ℕ) (y : UnitData) → unit_at new v ≡ Some y → (i : ℕ) (r : Reader) → get_or (readers_of y) i None ≡ Some r → r.node ≢ n
+      apart v y at i r reads e =
+          let c = input_cursor y i r reads in
+          let l = Rattle.ny_heap.proofs.CountLemmas.some_is (list_at old.store c.0.list) (Rattle.ny_heap.proofs.AddLemmas.reads_old old new n x ss a table v i y c.0 at c.1 c.2) in
+          none_some (sym a.vacant ∙ ap (list_at old.store) (sym e ∙ ap (λ (q : Reader). q.node) c.3) ∙ l.1)
 
-      other : (v : ℕ) (y : UnitData) → v ≢ n → unit_at new v ≡ Some y → NodeMeans part (state_of new fills peak) later v (node_of y)
-      other v y ne at =
-          let from = was v y ne at in
-          let x = from.unit in
-          let m = means v (node_of x) (node_of_unit B old fills peak v x from.there) in
-          let long : y.gone + length y.kept.items ≡ x.gone + length x.kept.items = ap (λ (q : UnitData). q.gone + length q.kept.items) from.is in
-          let passed : x.gone ≤ y.gone = omega (arith, ap (λ (q : UnitData). q.gone) from.is) in
-          let none : y.gone - x.gone ≡ 0 = omega (arith, ap (λ (q : UnitData). q.gone) from.is) in
-          let kept : y.kept.items ≡ drop (y.gone - x.gone) x.kept.items = ap (λ (q : UnitData). q.kept.items) from.is ∙ ap (λ k. drop k x.kept.items) (sym none) in
-          let blocks : Rattle.ny_heap.specs.Table.SameBlocks old new y = λ j h. ap (λ p. Rattle.ny_pool.specs.Blocks.in_block p (Rattle.ny_heap.specs.Given.id_in y.kept.items j)) (adds.pool ∙ grows.pool) in
-          subst (NodeMeans part (state_of new fills peak) later v) (sym (ap node_of from.is)) (record {
+      other : (v : ℕ) (y : UnitData) → v ≢ n → unit_at old v ≡ Some y → NodeMeans part (state_of new fills peak) later v (node_of new [] v y)
+      other v y ne there =
+          let at : unit_at new v ≡ Some y = unit_else old new n x ss a table v ne ∙ there in
+          let filled : filled_in new.store v ≡ filled_in old.store v = filled_else old new n x ss a table v ne in
+          let m = means v (node_of old [] v y) (node_of_unit B old fills peak v y there) in
+          let l = now.units v y at in
+          let held = sym (list_else old new n x ss a table v ne) ∙ l.1 in
+          record {
             len = ap length (same_samples v ne) ∙ m.len;
             owed = ap length (same_owed v ne) ∙ m.owed;
-            kept = λ j b e. m.kept j b (
-                block_at-state B old fills peak v j x from.there
-                ∙ content_part old new x y block_now (ap (λ (q : UnitData). q.timing) from.is) passed kept long blocks j b (sym (block_at-state B new fills peak v j y at) ∙ e)
-                ) ∙ (λ i. nth_block (sym block_now i) (sym (same_samples v ne) i) j);
+            kept = λ j b e. m.kept j b (block_at-state B old fills peak v j l.0 held ∙ sym (block_at-state B new fills peak v j l.0 l.1) ∙ e)
+                ∙ (λ i. nth_block (sym a.block i) (sym (same_samples v ne) i) j);
             rest = λ k begin below.
                 ap (λ xs. get_or xs k (pos 0)) (same_samples v ne)
-                ∙ m.rest k (subst (λ b. x.filled * b ≤ k) block_now begin) below
-                ∙ (λ i. unit_value (kind_of x.work) x.timing [] (x.timing.start + x.filled * sym block_now i) (sym (all_heard x.inputs.items (λ j r. not_new v j x r from.there)) i ++ (map Some (sym (same_owed v ne) i) ++ [])) (x.timing.start + k));
-          })
+                ∙ m.rest k (subst (λ b. filled_in old.store v * b ≤ k) a.block (subst (λ f. f * new.block ≤ k) filled begin)) below
+                ∙ (λ i. unit_value (kind_of y.work) y.timing (memory_in y.work) (y.timing.start + sym filled i * sym a.block i) (sym (all_heard (readers_of y) (apart v y at)) i ++ (map Some (sym (same_owed v ne) i) ++ [])) (y.timing.start + k));
+          }
 
-      given_is : all_inputs part later n (new_node {B = B} kind timing ss []) ≡ given
+      given_is : all_inputs part later n (new_node {B = B} (kind_of x.work) x.timing ss []) ≡ given
       given_is =
           (λ i. map (input_sound later.samples) (map reader_of ss) ++ (map Some (owed_here i) ++ []))
-          ∙ ap (λ qs. qs ++ []) (all_heard ss (λ i r reads e.
-          let l = list_of_reader ss i r reads in
-          unlisted_new i (l.0 ∙ ap Some e)) ∙ fused ss)
+          ∙ ap (λ qs. qs ++ []) (all_heard (map reader_of ss) (λ i r reads. apart n x (unit_new old new n x ss a table) i r (ap (λ rs. get_or rs i None) readers_new ∙ reads)) ∙ fused ss)
 
-      mine : NodeMeans part (state_of new fills peak) later n (new_node {B = B} kind timing ss [])
+      mine : NodeMeans part (state_of new fills peak) later n (new_node {B = B} (kind_of x.work) x.timing ss [])
       mine = record {
-        len = ap length samples_here ∙ length-map-range_with_len (unit_value kind timing [] timing.start given) timing.start timing.len;
+        len = ap length samples_here ∙ length-map-range_with_len (unit_value (kind_of x.work) x.timing (first_memory (kind_of x.work) ss) x.timing.start given) x.timing.start x.timing.len;
         owed = ap length owed_here;
-        kept = λ j b e. absurd (none_some (sym (block_at-state B new fills peak n j adds.unit adds.there ∙ content_past new adds.unit j (omega (arith, adds.blank.gone, ap length adds.blank.empty))) ∙ e));
+        kept = λ j b e. absurd (none_some (sym (block_at-state B new fills peak n j (begun x.timing.len 0) (list_new old new n x ss a table)) ∙ e));
         rest = λ k begin below.
             ap (λ xs. get_or xs k (pos 0)) samples_here
-            ∙ get_or-map-range_with_len (unit_value kind timing [] timing.start given) timing.start timing.len k (timing.start + k) (pos 0) below refl
-            ∙ (λ i. unit_value kind timing [] (from i) (sym given_is i) (timing.start + k));
+            ∙ get_or-map-range_with_len (unit_value (kind_of x.work) x.timing (first_memory (kind_of x.work) ss) x.timing.start given) x.timing.start x.timing.len k (x.timing.start + k) (pos 0) below refl
+            ∙ (λ i. unit_value (kind_of x.work) x.timing (first_memory (kind_of x.work) ss) (from i) (sym given_is i) (x.timing.start + k));
       }
         where
-          from : timing.start ≡ timing.start + 0 * new.block
+          from : x.timing.start ≡ x.timing.start + 0 * new.block
           from = omega arith
 
       pub means_now : Means part (state_of new fills peak) later
       means_now v y at =
-          let x = unit_of_node B new fills peak v y at in
-          subst (NodeMeans part (state_of new fills peak) later v) (sym x.2) (elim (cases_eq v n) [
+          let u = unit_of_node B new fills peak v y at in
+          subst (NodeMeans part (state_of new fills peak) later v) (sym u.2) (elim (unit_back old new n x ss a table v u.0 u.1) [
             | inl e ↦
-                let u : adds.unit ≡ x.0 = same_some (sym adds.there ∙ ap (unit_at new) (sym e) ∙ x.1) in
-                subst (λ (p : ℕ × Node B). NodeMeans part (state_of new fills peak) later p.0 p.1) (λ i. (sym e i, (sym node_is ∙ ap node_of u) i)) mine
-            | inr ne ↦ other v x.0 ne x.1
+                subst (λ (p : ℕ × Node B). NodeMeans part (state_of new fills peak) later p.0 p.1) (λ i. (sym e.0 i, (sym node_new ∙ (λ k. node_of {B = B} new [] (sym e.0 k) (sym e.1 k))) i)) mine
+            | inr e ↦ other v u.0 e.0 e.1
           ])

@@ -1,214 +1,281 @@
--- How blocks that nobody reads any more are given back.
-use Rattle.std.proofs.Common.{◌≡◌, ◌≢◌, ◌⊎◌, inl, inr, ℕ, zero, suc, ◌+◌, ◌-◌, ◌*◌, ◌^◌, ◌<◌, ◌≤◌, min, List, [], ◌∷◌, length, drop, set, Option, None, Some, IsSome, IsSomeAnd, refl, sym, ap, subst, ◌∙◌, arith, length-set}
-use Rattle.std.proofs.lemmas.List.{get_or-set_other, get_or-drop, length-drop}
+-- A unit whose input has another cursor.
+use Rattle.std.proofs.Common.{◌≡◌, ◌≢◌, inl, inr, ℕ, zero, suc, ◌+◌, ◌*◌, ◌<◌, ◌≤◌, min, List, [], ◌∷◌, length, get_or, set, Option, None, Some, IsSome, is_some, count_by, refl, sym, ap, subst, ◌∙◌, arith}
+use Rattle.std.specs.List.{sum_by}
+use Rattle.std.specs.Option.{option_map_or}
+use Rattle.std.proofs.lemmas.List.{get_or-set_same, get_or-set_other}
 use Rattle.std.proofs.lemmas.Bool.{cases_eq}
-use Rattle.std.specs.VecDeque.{deque_capacity}
-use Rattle.ny_pool.specs.declared.pool.BlockId.{BlockId}
-use Rattle.ny_pool.specs.Blocks.{IsTaken, in_block, free_of, with_block}
+use Rattle.ny_list.specs.Store.{ListState, StoreState, CursorState, list_at}
+use Rattle.ny_list.specs.Laws.{StoreLaws}
+use Rattle.ny_list.proofs.IndexLemmas.{same_some, none_some}
+use Rattle.ny_units.specs.Inputs.{reader_of, taken_of}
+use Rattle.ny_units.specs.declared.input.Source.{Source}
 use Rattle.ny_heap.specs.declared.table.Unit.{Unit as UnitData}
 use Rattle.ny_heap.specs.declared.table.Table.{Table}
-use Rattle.ny_heap.specs.Heap.{Reader, stands_in}
-use Rattle.ny_heap.specs.Given.{id_in, no_block}
-use Rattle.ny_heap.specs.Table.{unit_at, input_of, IsUnit, IsRead, IsTable, IsUnread, SameBlocks, SameTable, with_unit, ReadsAsBefore, Replaces, Passed, CanPass, gone_at}
-use Rattle.ny_heap.proofs.TableLemmas.{same_some, ids_apart}
-use Rattle.ny_heap.proofs.ReplaceLemmas.{at_changed, at_other, unit_was, IsTable-replaced}
+use Rattle.ny_heap.specs.Work.{inputs_in, source_at, with_source, cursor_at, without_cursor_at, HasGiven}
+use Rattle.ny_heap.specs.Table.{unit_at, own_in, own_of, held_in, mark_in, len_of, stands_at, IsTable, IsUnit, IsInput, IsRead, KeepsList, Drops}
+use Rattle.ny_heap.specs.Filling.{Reworks}
+use Rattle.ny_heap.proofs.TableLemmas.{place_within}
+use Rattle.ny_heap.proofs.ListLemmas.{Relists, KeepsList-same, len_kept, mark_is}
+use Rattle.ny_heap.proofs.CountLemmas.{some_is, is_some_of, held_cons}
+use Rattle.ny_heap.proofs.LawLemmas.{some_term, unit_reads}
+use Rattle.ny_heap.proofs.ReadLemmas.{stands_apart}
+use Rattle.ny_heap.proofs.InputLemmas.{Like, like_taken, reader_taken, SameWork, same_work, cursor_here, cursor_other, start_same, owns_rewired}
 
-pub some_and : {A : Type 0} (o : Option A) (P : A → Type 0) → IsSomeAnd o P → (x : A) × (o ≡ Some x) × P x
-some_and None P h = absurd h
-some_and (Some x) P h = (x, refl, h)
+pub Relists-same : (s t : StoreState) → t ≡ s → Relists s t
+Relists-same s t e = subst (Relists s) (sym e) (record { block = refl; loose = refl; size = refl; to = λ v x is. (x, is, KeepsList-same x x refl); back = λ v x is. (x, is, KeepsList-same x x refl) })
 
-pub and_some : {A : Type 0} (o : Option A) (P : A → Type 0) (x : A) → o ≡ Some x → P x → IsSomeAnd o P
-and_some o P x e p = subst (λ q. IsSomeAnd q P) (sym e) p
+-- ---- another cursor in input i of unit u
 
-drop_nothing : {A : Type 0} (n : ℕ) → drop {A = A} n [] ≡ []
-drop_nothing zero = refl
-drop_nothing (suc n) = refl
+module _ (t new : Table) (u i : ℕ) (x : UnitData) (s : Source) (at : unit_at t u ≡ Some x) (inside : i < inputs_in x.work) (like : Like (source_at x.work i) s)
+    (units : new.units.items ≡ set t.units.items u (Some (record x { work = with_source x.work i s }))) (block : new.block ≡ t.block) where
+  abbrev pub unit_now : UnitData
+  unit_now = record x { work = with_source x.work i s }
 
-pub drop-drop : {A : Type 0} (m n : ℕ) (xs : List A) → drop m (drop n xs) ≡ drop (n + m) xs
-drop-drop m zero xs = ap (λ k. drop k xs) (omega arith)
-drop-drop m (suc n) [] = drop_nothing m ∙ sym (drop_nothing (suc n + m))
-drop-drop m (suc n) (x ∷ xs) = drop-drop m n xs ∙ ap (λ k. drop k (x ∷ xs)) next
-  where
-    next : suc (n + m) ≡ suc n + m
-    next = omega arith
+  pub unit_here : unit_at new u ≡ Some unit_now
+  unit_here = ap (λ xs. get_or xs u None) units ∙ get_or-set_same t.units.items u (Some unit_now) None (place_within t.units.items u x at)
 
-pub id_in-drop : (n : ℕ) (blocks : List BlockId) (j : ℕ) → id_in (drop n blocks) j ≡ id_in blocks (n + j)
-id_in-drop n blocks j = ap (λ (b : BlockId). b.0) (get_or-drop n blocks j no_block)
+  pub unit_else : (w : ℕ) → w ≢ u → unit_at new w ≡ unit_at t w
+  unit_else w ne = ap (λ xs. get_or xs w None) units ∙ get_or-set_other t.units.items u w (Some unit_now) None ne
 
--- a unit's inputs read what they read
-pub reads_same : (t : Table) (table : IsTable t) (v i : ℕ) (x : UnitData) (r : Reader) → unit_at t v ≡ Some x → input_of x i ≡ Some r → ReadsAsBefore t x x i r
-reads_same t table v i x r there input =
-    let found = table.finds v i x r there input in
-    record {
-      before = r;
-      was = input;
-      node = refl;
-      len = refl;
-      at_need = found.2.at_need;
-      computed = λ z at. subst (λ (q : UnitData). r.place ≤ min (q.filled * t.block) q.timing.len) (same_some (sym found.1 ∙ at)) found.2.computed;
-      gone = λ z at. subst (λ (q : UnitData). q.gone ≤ stands_in t.block q.timing.len r.place) (same_some (sym found.1 ∙ at)) found.2.gone;
+  is_now : (y : UnitData) → unit_at new u ≡ Some y → unit_now ≡ y
+  is_now y is = same_some (sym unit_here ∙ is)
+
+  module _ (cs ds : List (Option CursorState)) (table : IsTable t cs) (lists : Relists t.store new.store) where
+    its_list : (l : ListState) × (list_at t.store u ≡ Some l) × IsUnit t u x l
+    its_list = table.units u x at
+
+    same : SameWork x.work (with_source x.work i s) x.timing x.inputs.items
+    same = same_work x.work i s x.timing x.inputs.items inside like
+
+    unit_kept : (v : ℕ) (y : UnitData) (k l : ListState) → KeepsList k l → IsUnit t v y k → IsUnit new v y l
+    unit_kept v y k l keeps is = record {
+      end = is.end;
+      len = keeps.len ∙ is.len;
+      some = is.some;
+      early = is.early;
+      count = is.count;
+      sides = is.sides;
+      begins = is.begins;
+      brings = is.brings;
+      hears = is.hears;
+      given = subst (λ n. HasGiven y.work y.timing.len (min n y.timing.len)) (λ j. sym keeps.filled j * sym block j) is.given;
     }
 
-first_replaces : (t : Table) (table : IsTable t) (v : ℕ) (x y : UnitData) (b : ℕ) → unit_at t v ≡ Some x → CanPass t v (x.gone + 1) → y ≡ record x { gone = x.gone + 1; kept = y.kept } → y.kept.items ≡ drop 1 x.kept.items → deque_capacity y.kept ≡ deque_capacity x.kept → 0 < length x.kept.items → b ≡ id_in x.kept.items 0 → free_of (with_block t.pool b None) ≡ free_of t.pool + 1 → Replaces t table v x y (with_block t.pool b None)
-first_replaces t table v x y b there can is kept room some first free = record {
-  len = refl;
-  size = length-set t.pool.blocks b None;
-  there = there;
-  timing = ap (λ (q : UnitData). q.timing) is;
-  filled = omega (arith, ap (λ (q : UnitData). q.filled) is);
-  blocks = λ w z ne at j h. other (id_in z.kept.items j) (λ e. ids_apart t v w 0 j x z table there at (λ q. ne (sym q)) some h (sym first ∙ sym e));
-  count = omega (arith, free, ap length kept, length-drop 1 x.kept.items);
-  unit = record {
-    some = omega (arith, ap (λ (q : UnitData). q.timing.len) is, u.some);
-    short = omega (arith, ap (λ (q : UnitData). q.timing.len) is, u.short);
-    early = omega (arith, ap (λ (q : UnitData). q.timing.start) is, u.early);
-    few = subst (λ n. Rattle.ny_heap.specs.Heap.blocks_of t.block n < 2 ^ 32) (sym (ap (λ (q : UnitData). q.timing.len) is)) u.few;
-    filled = subst (λ n. y.filled ≤ Rattle.ny_heap.specs.Heap.blocks_of t.block n) (sym (ap (λ (q : UnitData). q.timing.len) is)) (omega (arith, ap (λ (q : UnitData). q.filled) is, u.filled));
-    kept = omega (arith, ap length kept, length-drop 1 x.kept.items, u.kept, ap (λ (q : UnitData). q.filled) is, ap (λ (q : UnitData). q.gone) is);
-    room = subst (λ n. min (length (set t.pool.blocks b None)) (Rattle.ny_heap.specs.Heap.blocks_of t.block n) ≤ deque_capacity y.kept) (sym (ap (λ (q : UnitData). q.timing.len) is)) (omega (arith, length-set t.pool.blocks b None, room, u.room));
-    taken = λ j h. subst IsSome (sym (other (id_in y.kept.items j) (λ e. apart j (id_at j) h e))) (subst (λ k. IsTaken t.pool k) (sym (id_at j)) (u.taken (1 + j) (long j h)));
-    stands = λ j at. let s = u.stands j (sym (ap (λ (q : UnitData). q.reader) is) ∙ at) in (omega (arith, ap (λ (q : UnitData). q.gone) is, can.outside j (ap (λ (q : UnitData). q.reader) (same_some (sym can.there ∙ there)) ∙ sym (ap (λ (q : UnitData). q.reader) is) ∙ at)), omega (arith, s.1, ap (λ (q : UnitData). q.filled) is));
-  };
-  inputs = λ i r input.
-      let same = reads_same t table v i x r there (ap (λ (q : UnitData). input_of q i) (sym is) ∙ input) in
-      record {
-        before = same.before;
-        was = same.was;
-        node = same.node;
-        len = same.len;
-        at_need = same.at_need ∙ ap (λ (q : UnitData). Rattle.ny_heap.specs.Heap.taken_after t.block (Rattle.ny_heap.specs.Table.kind_of q.work) q.timing r.timing q.filled) (sym is);
-        computed = same.computed;
-        gone = same.gone;
-      };
-  reader = inl (ap (λ (q : UnitData). q.reader) is);
-  read = λ u i z r at input of.
-      subst (λ (q : UnitData). y.gone ≤ stands_in t.block q.timing.len r.place) (same_some (sym can.there ∙ there)) (omega (arith, can.read u i z r at input of, ap (λ (q : UnitData). q.gone) is));
-  owner = table.owner;
-  number = table.number;
-  owned = λ j h.
-      let o = table.owned v (1 + j) x there (long j h) in
-      (ap table.owner (id_at j) ∙ o.0, omega (arith, ap table.number (id_at j), o.1, ap (λ (q : UnitData). q.gone) is));
-  owned_else = λ w j z ne at h. table.owned w j z at h;
-}
-  where
-    u : IsUnit t x
-    u = table.units v x there
-
-    other : (k : ℕ) → k ≢ b → in_block (with_block t.pool b None) k ≡ in_block t.pool k
-    other k ne = get_or-set_other t.pool.blocks b k None None ne
-
-    id_at : (j : ℕ) → id_in y.kept.items j ≡ id_in x.kept.items (1 + j)
-    id_at j = ap (λ bs. id_in bs j) kept ∙ id_in-drop 1 x.kept.items j
-
-    long : (j : ℕ) → j < length y.kept.items → 1 + j < length x.kept.items
-    long j h = omega (arith, h, ap length kept, length-drop 1 x.kept.items)
-
-    apart : (j : ℕ) → id_in y.kept.items j ≡ id_in x.kept.items (1 + j) → j < length y.kept.items → id_in y.kept.items j ≡ b → ⊥
-    apart j at h e = absurd (omega (arith, (table.owned v (1 + j) x there (long j h)).1, (table.owned v 0 x there some).1, ap table.number (sym at ∙ e ∙ first)))
-
-pub first_passed : (t : Table) (table : IsTable t) (v : ℕ) (x y : UnitData) (b : ℕ) → unit_at t v ≡ Some x → CanPass t v (x.gone + 1) → y ≡ record x { gone = x.gone + 1; kept = y.kept } → y.kept.items ≡ drop 1 x.kept.items → deque_capacity y.kept ≡ deque_capacity x.kept → 0 < length x.kept.items → b ≡ id_in x.kept.items 0 → free_of (with_block t.pool b None) ≡ free_of t.pool + 1 → Passed t (with_unit t v y (with_block t.pool b None)) v (x.gone + 1)
-first_passed t table v x y b there can is kept room some first free =
-    let rep = first_replaces t table v x y b there can is kept room some first free in
-    record {
-      same = record { slots = length-set t.units v (Some y); block = refl; pool = length-set t.pool.blocks b None };
-      table = IsTable-replaced t table v x y (with_block t.pool b None) rep;
-      was = x;
-      there = there;
-      now = y;
-      after = at_changed t v x y (with_block t.pool b None) there;
-      is = is ∙ ap (λ n. record x { gone = n; kept = y.kept }) (sym (ap (λ (q : UnitData). q.gone) is));
-      gone = ap (λ (q : UnitData). q.gone) is;
-      from = omega arith;
-      kept = kept ∙ ap (λ n. drop n x.kept.items) one;
-      others = λ w ne. at_other t v x y (with_block t.pool b None) there w ne;
-      blocks = λ w z at j h. blocks rep w z j (unit_was t v x y (with_block t.pool b None) there w z at) h;
+    unit_then : (k l : ListState) → KeepsList k l → IsUnit t u x k → IsUnit new u unit_now l
+    unit_then k l keeps is = record {
+      end = is.end;
+      len = keeps.len ∙ is.len;
+      some = is.some;
+      early = is.early;
+      count = is.count ∙ sym same.count;
+      sides = same.sides is.sides;
+      begins = same.begins is.begins;
+      brings = same.brings is.brings;
+      hears = same.hears is.hears;
+      given = same.given x.timing.len (min (length l.values * new.block) x.timing.len) (subst (λ n. HasGiven x.work x.timing.len (min n x.timing.len)) (λ j. sym keeps.filled j * sym block j) is.given);
     }
-  where
-    one : 1 ≡ x.gone + 1 - x.gone
-    one = omega arith
 
-    blocks : Replaces t table v x y (with_block t.pool b None) → (w : ℕ) (z : UnitData) (j : ℕ) → ((w ≡ v) × (z ≡ y)) ⊎ ((w ≢ v) × (unit_at t w ≡ Some z)) → j < length z.kept.items → in_block (with_block t.pool b None) (id_in z.kept.items j) ≡ in_block t.pool (id_in z.kept.items j)
-    blocks rep w z j (inr o) h = rep.blocks w z o.0 o.1 j h
-    blocks rep w z j (inl e) h =
-        let long : j < length y.kept.items = subst (λ (q : UnitData). j < length q.kept.items) e.1 h in
-        let more : 1 + j < length x.kept.items = omega (arith, long, ap length kept, length-drop 1 x.kept.items) in
-        let at = ap (λ (q : UnitData). id_in q.kept.items j) e.1 ∙ ap (λ bs. id_in bs j) kept ∙ id_in-drop 1 x.kept.items j in
-        get_or-set_other t.pool.blocks b (id_in z.kept.items j) None None (λ same. absurd (omega (arith, (table.owned v (1 + j) x there more).1, (table.owned v 0 x there some).1, ap table.number (sym at ∙ same ∙ first))))
+    unit_new : (y : UnitData) → unit_at new u ≡ Some y → (l : ListState) × (list_at new.store u ≡ Some l) × IsUnit new u y l
+    unit_new y is =
+        let n = lists.to u its_list.0 its_list.1 in
+        (n.0, n.1, subst (λ (z : UnitData). IsUnit new u z n.0) (is_now y is) (unit_then its_list.0 n.0 n.2 its_list.2))
 
-pub Passed-none : (t : Table) (v : ℕ) (x : UnitData) → IsTable t → unit_at t v ≡ Some x → Passed t t v x.gone
-Passed-none t v x table there = record {
-  same = record { slots = refl; block = refl; pool = refl };
-  table = table;
-  was = x;
-  there = there;
-  now = x;
-  after = there;
-  is = refl;
-  gone = refl;
-  from = omega arith;
-  kept = ap (λ n. drop n x.kept.items) none;
-  others = λ w ne. refl;
-  blocks = λ w y at j h. refl;
-}
-  where
-    none : 0 ≡ x.gone - x.gone
-    none = omega arith
+    input_kept : (y : UnitData) (k : ℕ) (c : CursorState) (l m : ListState) → KeepsList l m → IsInput t y k c l → IsInput new y k c m
+    input_kept y k c l m keeps is = record {
+      starts = is.starts;
+      sees = is.sees;
+      visible = subst (λ n. c.visible ≤ n) (sym keeps.len) is.visible;
+      computed = subst (λ n. c.place ≤ n) (λ j. min (sym keeps.filled j * sym block j) (sym keeps.len j)) is.computed;
+    }
 
-pub Passed-more : (old cur new : Table) (v so_far to : ℕ) → to ≡ so_far + 1 → Passed old cur v so_far → Passed cur new v to → Passed old new v to
-Passed-more old cur new v so_far to next first second = record {
-  same = record {
-    slots = second.same.slots ∙ first.same.slots;
-    block = second.same.block ∙ first.same.block;
-    pool = second.same.pool ∙ first.same.pool;
-  };
-  table = second.table;
-  was = first.was;
-  there = first.there;
-  now = second.now;
-  after = second.after;
-  is = second.is ∙ ap (λ (q : UnitData). record q { gone = second.now.gone; kept = second.now.kept }) (is ∙ first.is);
-  gone = second.gone;
-  from = omega (arith, first.from);
-  kept =
-      second.kept
-      ∙ ap (λ (q : UnitData). drop (to - q.gone) q.kept.items) is
-      ∙ ap (drop (to - first.now.gone)) first.kept
-      ∙ drop-drop (to - first.now.gone) (so_far - first.was.gone) first.was.kept.items
-      ∙ ap (λ n. drop n first.was.kept.items) count;
-  others = λ w ne. second.others w ne ∙ first.others w ne;
-  blocks = λ w y at j h. second.blocks w y at j h ∙ before w y at j h (cases_eq w v);
-}
-  where
-    is : second.was ≡ first.now
-    is = same_some (sym second.there ∙ first.after)
+    -- what is put there can be read, and stands lower than the unit
+    module _ (input : (c : CursorState) → reader_of s ≡ Some c → (l : ListState) × (list_at t.store c.list ≡ Some l) × IsInput t x i c l × (table.rank c.list < table.rank u)) where
+      input_new : (k : ℕ) (c : CursorState) → k < length x.inputs.items → cursor_at unit_now.work k ≡ Some c → (m : ListState) × (list_at new.store c.list ≡ Some m) × IsInput new unit_now k c m × (table.rank c.list < table.rank u)
+      input_new k c within cursor = elim (cases_eq k i) [
+        | inl e ↦
+            let a = input c (sym (cursor_here x.work i s inside like) ∙ sym (ap (cursor_at unit_now.work) e) ∙ cursor) in
+            let n = lists.to c.list a.0 a.1 in
+            let is = input_kept x i c a.0 n.0 n.2 a.2 in
+            (n.0, n.1, subst (λ j. IsInput new unit_now j c n.0) (sym e) (record { starts = start_same x.work i s inside like i inside ∙ is.starts; sees = is.sees; visible = is.visible; computed = is.computed }), a.3)
+        | inr ne ↦
+            let was : cursor_at x.work k ≡ Some c = sym (cursor_other x.work i s inside like k (omega (arith, within, its_list.2.count)) ne) ∙ cursor in
+            let a = table.inputs u k x its_list.0 c at its_list.1 within was in
+            let n = lists.to c.list a.0 a.1 in
+            let is = input_kept x k c a.0 n.0 n.2 a.2 in
+            (n.0, n.1, record { starts = start_same x.work i s inside like k (omega (arith, within, its_list.2.count)) ∙ is.starts; sees = is.sees; visible = is.visible; computed = is.computed }, table.falls u k x c at within was)
+      ]
 
-    count : so_far - first.was.gone + (to - first.now.gone) ≡ to - first.was.gone
-    count = omega (arith, first.gone, first.from)
+      pub rewired_below : (v : ℕ) (y : UnitData) → unit_at new v ≡ Some y → table.rank v < table.bound
+      rewired_below v y is = elim (cases_eq v u) [
+        | inl e ↦ subst (λ w. table.rank w < table.bound) (sym e) (table.below u x at)
+        | inr ne ↦ table.below v y (sym (unit_else v ne) ∙ is)
+      ]
 
-    before : (w : ℕ) (y : UnitData) → unit_at new w ≡ Some y → (j : ℕ) → j < length y.kept.items → (w ≡ v) ⊎ (w ≢ v) → in_block cur.pool (id_in y.kept.items j) ≡ in_block old.pool (id_in y.kept.items j)
-    before w y at j h (inr ne) = first.blocks w y (sym (second.others w ne) ∙ at) j h
-    before w y at j h (inl e) =
-        let same = same_some (sym at ∙ ap (unit_at new) e ∙ second.after) in
-        let kept = ap (λ (q : UnitData). q.kept.items) same ∙ second.kept ∙ ap (λ (q : UnitData). drop (to - second.was.gone) q.kept.items) is in
-        let id = ap (λ bs. id_in bs j) kept ∙ id_in-drop (to - second.was.gone) first.now.kept.items j in
-        let inside : to - second.was.gone + j < length first.now.kept.items = omega (arith, h, ap length kept, length-drop (to - second.was.gone) first.now.kept.items) in
-        ap (in_block cur.pool) id ∙ first.blocks v first.now first.after (to - second.was.gone + j) inside ∙ ap (in_block old.pool) (sym id)
+      falls_new : (y : UnitData) (k : ℕ) (c : CursorState) → unit_at new u ≡ Some y → k < length y.inputs.items → cursor_at y.work k ≡ Some c → table.rank c.list < table.rank u
+      falls_new y k c is within cursor =
+          (input_new k c (subst (λ (z : UnitData). k < length z.inputs.items) (sym (is_now y is)) within) (ap (λ (z : UnitData). cursor_at z.work k) (is_now y is) ∙ cursor)).3
 
-pub can_pass_on : (old cur : Table) (v so_far to : ℕ) → Passed old cur v so_far → so_far < to → CanPass old v to → CanPass cur v (so_far + 1)
-can_pass_on old cur v so_far to passed less can = record {
-  unit = passed.now;
-  there = passed.after;
-  from = omega (arith, passed.gone);
-  filled = omega (arith, can.filled, ap (λ (q : UnitData). q.filled) now);
-  outside = λ j at. omega (arith, can.outside j (sym (ap (λ (q : UnitData). q.reader) now) ∙ at));
-  read = λ u i z r at input of.
-      let ne : u ≢ v = λ e. absurd (omega (arith, passed.table.falls u i z r at input, ap passed.table.rank (of ∙ sym e))) in
-      let far = can.read u i z r (sym (passed.others u ne) ∙ at) input of in
-      subst (λ b. so_far + 1 ≤ stands_in b passed.now.timing.len r.place) (sym passed.same.block) (subst (λ n. so_far + 1 ≤ stands_in old.block n r.place) (sym (ap (λ (q : UnitData). q.timing.len) now)) (omega (arith, far)));
-}
-  where
-    now : passed.now ≡ record can.unit { gone = passed.now.gone; kept = passed.now.kept }
-    now = passed.is ∙ ap (λ (q : UnitData). record q { gone = passed.now.gone; kept = passed.now.kept }) (same_some (sym passed.there ∙ can.there))
+      pub rewired_falls : (v k : ℕ) (y : UnitData) (c : CursorState) → unit_at new v ≡ Some y → k < length y.inputs.items → cursor_at y.work k ≡ Some c → table.rank c.list < table.rank v
+      rewired_falls v k y c is within cursor = elim (cases_eq v u) [
+        | inl e ↦ subst (λ w. table.rank c.list < table.rank w) (sym e) (falls_new y k c (sym (ap (unit_at new) e) ∙ is) within cursor)
+        | inr ne ↦ table.falls v k y c (sym (unit_else v ne) ∙ is) within cursor
+      ]
 
-pub gone_is : (t : Table) (v : ℕ) (x : UnitData) → unit_at t v ≡ Some x → gone_at t v ≡ x.gone
-gone_is t v x at = ap (λ (o : Option UnitData). Rattle.std.specs.Option.option_map_or (λ (q : UnitData). q.gone) o 0) at
+      held_same : (v j : ℕ) → len_of new.store v ≡ len_of t.store v → held_in new ds v j ≡ held_in t ds v j
+      held_same v j len = ap (λ b. sum_by (stands_at b (len_of new.store v) v j) ds) block ∙ ap (λ n. sum_by (stands_at t.block n v j) ds) len
+
+      pub IsTable-rewired : StoreLaws new.store → ((k : ℕ) (c : CursorState) → get_or ds k None ≡ Some c → IsSome (list_at t.store c.list))
+          → ((v j : ℕ) (l : ListState) → list_at t.store v ≡ Some l → own_in t v j + (stands_at t.block (len_of t.store v) v j (reader_of s) + held_in t ds v j) ≤ mark_in new.store v j + stands_at t.block (len_of t.store v) v j (cursor_at x.work i))
+          → IsTable new ds
+      IsTable-rewired laws there counted = record {
+        store = laws;
+        block = lists.block ∙ table.block ∙ sym block;
+        loose = ap (count_by is_some) lists.loose ∙ table.loose;
+        units = λ v y is. elim (cases_eq v u) [
+          | inl e ↦ subst (λ w. (l : ListState) × (list_at new.store w ≡ Some l) × IsUnit new w y l) (sym e) (unit_new y (sym (ap (unit_at new) e) ∙ is))
+          | inr ne ↦ let a = table.units v y (sym (unit_else v ne) ∙ is) in let n = lists.to v a.0 a.1 in (n.0, n.1, unit_kept v y a.0 n.0 n.2 a.2)
+        ];
+        lists = λ v some. elim (cases_eq v u) [
+          | inl e ↦ subst (λ w. IsSome (unit_at new w)) (sym e) (is_some_of _ unit_now unit_here)
+          | inr ne ↦
+              let l = some_is (list_at new.store v) some in
+              let b = lists.back v l.0 l.1 in
+              let y = some_is (unit_at t v) (table.lists v (is_some_of _ b.0 b.1)) in
+              is_some_of _ y.0 (unit_else v ne ∙ y.1)
+        ];
+        inputs = λ v k y l c is listed within cursor. elim (cases_eq v u) [
+          | inl e ↦ input_at_u k y c (sym (ap (unit_at new) e) ∙ is) within cursor
+          | inr ne ↦
+              let b = lists.back v l listed in
+              let a = table.inputs v k y b.0 c (sym (unit_else v ne) ∙ is) b.1 within cursor in
+              let n = lists.to c.list a.0 a.1 in
+              (n.0, n.1, input_kept y k c a.0 n.0 n.2 a.2)
+        ];
+        held = λ k c is. let l = some_is (list_at t.store c.list) (there k c is) in let n = lists.to c.list l.0 l.1 in is_some_of _ n.0 n.1;
+        counted = λ v j l is.
+            let b = lists.back v l is in
+            let len : len_of new.store v ≡ len_of t.store v = len_kept t.store new.store v l lists is in
+            omega (arith, counted v j b.0 b.1, held_same v j len, owns_rewired x i s its_list.2.count inside like t new u v j at units block len);
+        rank = table.rank;
+        bound = table.bound;
+        below = rewired_below;
+        falls = rewired_falls;
+      }
+        where
+          input_at_u : (k : ℕ) (y : UnitData) (c : CursorState) → unit_at new u ≡ Some y → k < length y.inputs.items → cursor_at y.work k ≡ Some c → (m : ListState) × (list_at new.store c.list ≡ Some m) × IsInput new y k c m
+          input_at_u k y c is within cursor =
+              subst (λ (z : UnitData). k < length z.inputs.items → cursor_at z.work k ≡ Some c → (m : ListState) × (list_at new.store c.list ≡ Some m) × IsInput new z k c m) (is_now y is)
+              (λ h d. let a = input_new k c h d in (a.0, a.1, a.2)) within cursor
+
+-- ---- a unit's cursor is taken in hand
+
+module _ (t mid : Table) (u i : ℕ) (x : UnitData) (c : CursorState) (table : IsTable t []) (at : unit_at t u ≡ Some x) (inside : i < inputs_in x.work) (reads : cursor_at x.work i ≡ Some c)
+    (took : Reworks t mid u x (without_cursor_at x.work i)) where
+  abbrev pub empty : Source
+  empty = taken_of (source_at x.work i)
+
+  none_put : (d : CursorState) → reader_of empty ≡ Some d → ⊥
+  none_put d is = none_some (sym (reader_taken (source_at x.work i)) ∙ is)
+
+  unit_list : (l : ListState) × (list_at t.store u ≡ Some l) × IsUnit t u x l
+  unit_list = table.units u x at
+
+  within : i < length x.inputs.items
+  within = omega (arith, inside, unit_list.2.count)
+
+  pub its_input : (l : ListState) × (list_at t.store c.list ≡ Some l) × IsInput t x i c l
+  its_input = table.inputs u i x unit_list.0 c at unit_list.1 within reads
+
+  pub its_rank : table.rank c.list < table.rank u
+  its_rank = table.falls u i x c at within reads
+
+  -- the others have what all had but for it
+  pub own_taken : (v j : ℕ) → own_in mid v j + held_in mid (Some c ∷ []) v j ≡ own_in t v j
+  own_taken v j =
+      let len : len_of mid.store v ≡ len_of t.store v = ap (λ s. len_of s v) took.store in
+      omega (
+        arith,
+        owns_rewired x i empty unit_list.2.count inside (like_taken (source_at x.work i)) t mid u v j at took.units took.block len,
+        ap (stands_at t.block (len_of t.store v) v j) reads,
+        ap (stands_at t.block (len_of t.store v) v j) (reader_taken (source_at x.work i)),
+        held_cons mid (Some c) [] v j,
+        ap (λ b. stands_at b (len_of mid.store v) v j (Some c)) took.block,
+        ap (λ n. stands_at t.block n v j (Some c)) len,
+      )
+
+  pub IsTable-taken : IsTable mid (Some c ∷ [])
+  IsTable-taken =
+      IsTable-rewired t mid u i x empty at inside (like_taken (source_at x.work i)) took.units took.block [] (Some c ∷ []) table (Relists-same t.store mid.store took.store)
+      (λ d is. absurd (none_put d is)) (subst StoreLaws (sym took.store) table.store) there
+      (λ v j l is. omega (
+        arith,
+        table.counted v j l is,
+        ap (λ s. mark_in s v j) took.store,
+        ap (stands_at t.block (len_of t.store v) v j) reads,
+        ap (stands_at t.block (len_of t.store v) v j) (reader_taken (source_at x.work i)),
+        held_cons t (Some c) [] v j,
+      ))
+    where
+      there : (k : ℕ) (d : CursorState) → get_or (Some c ∷ []) k None ≡ Some d → IsSome (list_at t.store d.list)
+      there zero d is = subst (λ (q : CursorState). IsSome (list_at t.store q.list)) (same_some is) (is_some_of _ its_input.0 its_input.1)
+      there (suc zero) d is = absurd (none_some is)
+      there (suc (suc k)) d is = absurd (none_some is)
+
+  pub taken_below : (v : ℕ) (y : UnitData) → unit_at mid v ≡ Some y → table.rank v < table.bound
+  taken_below =
+      rewired_below t mid u i x empty at inside (like_taken (source_at x.work i)) took.units took.block [] (Some c ∷ []) table (Relists-same t.store mid.store took.store) (λ d is. absurd (none_put d is))
+
+  pub taken_falls : (v k : ℕ) (y : UnitData) (d : CursorState) → unit_at mid v ≡ Some y → k < length y.inputs.items → cursor_at y.work k ≡ Some d → table.rank d.list < table.rank v
+  taken_falls =
+      rewired_falls t mid u i x empty at inside (like_taken (source_at x.work i)) took.units took.block [] (Some c ∷ []) table (Relists-same t.store mid.store took.store) (λ d is. absurd (none_put d is))
+
+  pub taken_unit : unit_at mid u ≡ Some (record x { work = without_cursor_at x.work i })
+  taken_unit = unit_here t mid u i x empty at inside (like_taken (source_at x.work i)) took.units took.block
+
+  pub taken_else : (w : ℕ) → w ≢ u → unit_at mid w ≡ unit_at t w
+  taken_else = unit_else t mid u i x empty at inside (like_taken (source_at x.work i)) took.units took.block
+
+  pub IsRead-taken : IsRead t → IsRead mid
+  IsRead-taken read v l is = read v l (ap (λ s. list_at s v) (sym took.store) ∙ is)
+
+-- ---- what stands higher than a cursor that is dropped stays
+
+module _ (mid new : Table) (c : CursorState) (table : IsTable mid (Some c ∷ [])) (read : IsRead mid) (drops : Drops mid new (Some c ∷ []) []) (rank : ℕ → ℕ) (bound : ℕ)
+    (below : (v : ℕ) (x : UnitData) → unit_at mid v ≡ Some x → rank v < bound)
+    (falls : (v i : ℕ) (x : UnitData) (d : CursorState) → unit_at mid v ≡ Some x → i < length x.inputs.items → cursor_at x.work i ≡ Some d → rank d.list < rank v) where
+  table_left : IsTable new []
+  table_left = drops.table [] table
+
+  pub stays : (fuel v : ℕ) (x : UnitData) → unit_at mid v ≡ Some x → rank c.list < rank v → bound ≤ rank v + fuel → IsSome (unit_at new v)
+  stays zero v x at above near = absurd (omega (arith, below v x at, near))
+  stays (suc fuel) v x at above near = by (λ w y is higher close. stays fuel w y is higher close) (list_at new.store v) refl
+    where
+      list_v : (l : ListState) × (list_at mid.store v ≡ Some l) × IsUnit mid v x l
+      list_v = table.units v x at
+
+      block_v : (k : ℕ) × (k < length list_v.0.marks) × (0 < get_or list_v.0.marks k 0)
+      block_v = some_term (λ m. m) 0 list_v.0.marks (read v list_v.0 list_v.1)
+
+      read_by : list_at new.store v ≡ None → 0 < own_in mid v block_v.0
+      read_by gone =
+          omega (
+            arith,
+            block_v.2,
+            mark_is mid.store v block_v.0 list_v.0 list_v.1,
+            drops.gone v block_v.0 list_v.0 list_v.1 gone,
+            held_cons mid (Some c) [] v block_v.0,
+            stands_apart mid.block (len_of mid.store v) v block_v.0 c (λ e. omega (arith, above, ap rank e)),
+          )
+
+      by : ((w : ℕ) (y : UnitData) → unit_at mid w ≡ Some y → rank c.list < rank w → bound ≤ rank w + fuel → IsSome (unit_at new w)) → (o : Option ListState) → list_at new.store v ≡ o → IsSome (unit_at new v)
+      by up (Some l) e = table_left.lists v (is_some_of _ l e)
+      by up None e =
+          let w = some_term (λ (o : Option UnitData). option_map_or {U = ℕ} (own_of mid.block (len_of mid.store v) v block_v.0) o 0) None mid.units.items (read_by e) in
+          let r = unit_reads mid.block (len_of mid.store v) v block_v.0 (unit_at mid w.0) w.2 in
+          let higher = falls w.0 r.1 r.0 r.2 r.3 r.4 r.5 in
+          let y = some_is (unit_at new w.0) (up w.0 r.0 r.3 (omega (arith, higher, above, ap rank r.6)) (omega (arith, higher, near, ap rank r.6))) in
+          let same : r.0 ≡ y.0 = same_some (sym r.3 ∙ drops.kept w.0 y.0 y.1) in
+          let is : unit_at new w.0 ≡ Some r.0 = y.1 ∙ ap Some (sym same) in
+          let l = table_left.units w.0 r.0 is in
+          let a = table_left.inputs w.0 r.1 r.0 l.0 r.2 is l.1 r.4 r.5 in
+          absurd (none_some (sym e ∙ ap (list_at new.store) (sym r.6) ∙ a.1))

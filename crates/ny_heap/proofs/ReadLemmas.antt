@@ -1,249 +1,298 @@
--- What it is to a contract that a sound is read.
-use Rattle.std.proofs.Common.{◌≡◌, ◌≢◌, ◌⊎◌, inl, inr, ℕ, ◌+◌, ◌-◌, ◌*◌, ◌/◌, ◌%◌, ◌<◌, ◌≤◌, min, List, ◌++◌, length, drop, take, get_or, set, map, replicate, Option, None, Some, is_some, IsSome, refl, sym, ap, subst, ◌∙◌, arith, length-set, length-append, ℤ, pos}
-use Rattle.std.proofs.lemmas.List.{get_or-set_same, get_or-set_other, get_or-take, get_or-drop, length-take, length-drop, ext_get_or, get_or_append_left, get_or-append_right}
-use Rattle.std.proofs.lemmas.Bool.{cases_eq, cases_lt}
+-- A cursor in hand that goes on, and what it reads.
+use Rattle.std.proofs.Common.{◌≡◌, ◌≢◌, inl, inr, ℕ, zero, suc, ◌+◌, ◌-◌, ◌*◌, ◌/◌, ◌%◌, ◌<◌, ◌≤◌, ◌&&◌, min, nat_eq, cond, List, [], ◌∷◌, ◌++◌, length, take, drop, get_or, set, Option, None, Some, IsSome, ◌⊎◌, refl, sym, ap, subst, ◌∙◌, arith, ℤ, length-set}
 use Rattle.std.specs.Option.{option_map, option_map_or}
-use Rattle.ny_pool.specs.Blocks.{in_block}
-use Rattle.ny_heap.specs.declared.sound.Sound.{Sound}
+use Rattle.std.proofs.lemmas.List.{get_or-set_same, get_or-set_other, length-take, length-drop, drop-take}
+use Rattle.std.proofs.lemmas.Bool.{cases_eq, cases_lt, eq-eqb, ne_eqb}
+use Rattle.std.proofs.lemmas.Nat.{mul-le}
+use Rattle.std.proofs.Math.Nat.{div-lt_iff_lt-mul, suc-mul, mod-lt, mod-eq-sub-div-mul, div-mul-le_self}
+use Rattle.ny_list.specs.Store as lists
+use Rattle.ny_list.specs.Store.{ListState, StoreState, CursorState, list_at, mark_at, cursors_of, least, block_of}
+use Rattle.ny_list.specs.Steps.{settled, entered, left, with_list, with_move, IsComputed}
+use Rattle.ny_list.specs.Laws.{StoreLaws}
+use Rattle.ny_list.specs.Reading.{Shows}
+use Rattle.ny_list.proofs.ReadLemmas.{run_shown, run_seen_few}
+use Rattle.ny_list.proofs.SettleLemmas.{least_at}
+use Rattle.ny_list.proofs.IndexLemmas.{same_some, sum_at}
 use Rattle.ny_heap.specs.declared.table.Unit.{Unit as UnitData}
 use Rattle.ny_heap.specs.declared.table.Table.{Table}
-use Rattle.ny_heap.specs.declared.table.ReadBy.{ReadBy}
-use Rattle.ny_heap.specs.declared.table.ReadBy.TheVariants.{Outside, Input, Nobody}
-use Rattle.ny_heap.specs.Heap.{Node, HeapState, node_at, list_of, place_of, blocks_of, stands_in, computed_of}
-use Rattle.ny_heap.specs.Means.{Parts, Whole, Means, KeepsMeaning, sound_in}
-use Rattle.ny_heap.specs.Reach.{Uses, IsTrimmed}
-use Rattle.ny_heap.specs.Steps.{changed, with_mark, without_mark, with_sound, without_sound, advanced, run_of, computed_in}
-use Rattle.ny_heap.specs.Given.{id_in}
-use Rattle.ny_heap.specs.Table.{unit_at, IsTable, Moves, CanMove}
-use Rattle.ny_heap.specs.View.{marks, node_of, contents_of, state_of, IsTightBy, IsTight, IsClean, IsHeap}
-use Rattle.ny_heap.specs.Samples.{item_of, item_in, CanRead, Copies}
-use Rattle.ny_heap.proofs.TableLemmas.{same_some, some_is, within}
-use Rattle.ny_heap.proofs.NeedLemmas.{stands_rises, stands_within, stands_mid}
-use Rattle.ny_heap.proofs.ViewLemmas.{node_of_unit, unit_of_node, block_at-state, content_kept, uses_input}
-use Rattle.ny_heap.proofs.StepLemmas.{trimmed_by, keeps_by, content_part, Holder}
-use Rattle.ny_heap.proofs.ReleaseLemmas.{unmarked, uses_same}
-use Rattle.ny_heap.proofs.FillLemmas.{div_less}
-use Rattle.ny_heap.proofs.PlayLemmas.{in_step}
-use Rattle.ny_heap.proofs.FillStepLemmas.{zeros_at}
-use Rattle.ny_heap.proofs.HearLemmas.{div_on}
-use Rattle.ny_heap.proofs.HeardLemmas.{nth_item}
+use Rattle.ny_heap.specs.Heap.{blocks_of, stands_in, taken_after}
+use Rattle.ny_heap.specs.Steps.{run_of}
+use Rattle.ny_heap.proofs.TableLemmas.{place_within}
+use Rattle.ny_heap.proofs.NeedLemmas.{stands_within}
+use Rattle.ny_heap.specs.Work.{kind_of}
+use Rattle.ny_heap.specs.Table.{unit_at, timing_at, mark_in, len_of, stands_at, computed_in, IsTable, IsRead}
+use Rattle.ny_heap.specs.View.{filled_in, IsHeap}
+use Rattle.ny_heap.proofs.ListLemmas.{list_within, list_here, list_other, blank_len, blank_kept, Relists, Relists-one, marks_left, mark_is, len_is}
+use Rattle.ny_heap.proofs.CountLemmas.{some_is, is_some_of, cursor_counted, held_cons, IsTable-relisted}
 
--- ---- what a reader may do
+-- ---- marks
 
-gone_is_stand : (t : Table) (heap : IsHeap t) (s : Sound) (n : ℕ) (h : Holder t s n) → h.unit.gone ≡ stands_in t.block h.unit.timing.len (place_of s)
-gone_is_stand t heap s n h = subst (IsTightBy t n h.unit) h.reader (heap.tight n h.unit h.there)
+-- a mark more in one place
+marks_entered : (marks : List ℕ) (m j : ℕ) → m < length marks → get_or (set marks m (get_or marks m 0 + 1)) j 0 ≡ get_or marks j 0 + cond (nat_eq m j) 1 0
+marks_entered marks m j within = elim (cases_eq m j) [
+  | inl e ↦ omega (arith, ap (λ b. cond {A = ℕ} b 1 0) (eq-eqb m j e), ap (λ i. get_or (set marks m (get_or marks m 0 + 1)) i 0) e, ap (λ i. get_or marks i 0) e, get_or-set_same marks m (get_or marks m 0 + 1) 0 within)
+  | inr ne ↦ omega (arith, ap (λ b. cond {A = ℕ} b 1 0) (ne_eqb m j ne), get_or-set_other marks m j (get_or marks m 0 + 1) 0 (λ e. ne (sym e)))
+]
 
-pub can_read : (t : Table) (heap : IsHeap t) (s : Sound) (n place : ℕ) → Holder t s n → place ≡ place_of s → CanRead t n place s.timing.len
-can_read t heap s n place h is = record {
-  unit = h.unit;
-  there = h.there;
-  seen = omega (arith, h.place, is);
-  visible_of = h.visible;
-  kept = λ less. omega (arith, gone_is_stand t heap s n h, ap (stands_in t.block h.unit.timing.len) is, stands_mid t.block h.unit.timing.len place (λ e. absurd (omega (arith, less, e))));
-  short = omega (arith, h.visible, (heap.table.units n h.unit h.there).short);
-}
+-- what a cursor counts in a block of its list, and of another
+pub stands_of : (block n len v j : ℕ) (b : CursorState) → b.list ≡ v → n ≡ len → stands_at block n v j (Some b) ≡ cond (nat_eq (stands_in block len b.place) j) 1 0
+stands_of block n len v j b same e =
+    ap (λ p. cond {A = ℕ} (p && nat_eq (stands_in block n b.place) j) 1 0) (eq-eqb b.list v same)
+    ∙ ap (λ m. cond {A = ℕ} (nat_eq (stands_in block m b.place) j) 1 0) e
 
-pub can_move_on : (t : Table) (heap : IsHeap t) (s : Sound) (n place to : ℕ) (h : Holder t s n) → place_of s ≤ place → place ≤ min (h.unit.filled * t.block) h.unit.timing.len → to ≡ stands_in t.block h.unit.timing.len place → CanMove t n to
-can_move_on t heap s n place to h later far is = record {
-  unit = h.unit;
-  there = h.there;
-  unread = h.unread;
-  from = omega (arith, is, gone_is_stand t heap s n h, stands_rises t.block h.unit.timing.len (place_of s) place heap.table.positive later (omega (arith, far)));
-  filled = omega (arith, is, stands_within t.block h.unit.timing.len place h.unit.filled heap.table.positive far);
-}
+pub stands_apart : (block n v j : ℕ) (b : CursorState) → b.list ≢ v → stands_at block n v j (Some b) ≡ 0
+stands_apart block n v j b ne = ap (λ p. cond {A = ℕ} (p && nat_eq (stands_in block n b.place) j) 1 0) (ne_eqb b.list v ne)
 
--- ---- the table once a sound has moved
+-- ---- the store, once the cursor stands elsewhere
 
-module _ (old new : Table) (n to : ℕ) (heap : IsHeap old) (moves : Moves old new n to) where
-  -- a unit that reads reads what it read
-  reader_there : (p : ℕ) (y : UnitData) → unit_at old p ≡ Some y → (q : UnitData) × (unit_at new p ≡ Some q) × (q.inputs ≡ y.inputs)
-  reader_there p y at = elim (cases_eq p n) [
-    | inl e ↦ (moves.now, ap (unit_at new) e ∙ moves.after, ap (λ (k : UnitData). k.inputs) moves.is ∙ ap (λ (k : UnitData). k.inputs) (same_some (sym moves.there ∙ ap (unit_at old) (sym e) ∙ at)))
-    | inr ne ↦ (y, moves.others p ne ∙ at, refl)
+-- c goes on to where d stands, in list x
+module _ (s : StoreState) (c d : CursorState) (same : d.list ≡ c.list) (x : ListState) (is : list_at s c.list ≡ Some x) where
+  abbrev pub from_block : ℕ
+  from_block = stands_in s.block x.len c.place
+
+  abbrev pub to_block : ℕ
+  to_block = stands_in s.block x.len d.place
+
+  abbrev pub list_now : ListState
+  list_now = settled (entered to_block (left from_block x))
+
+  move_is : with_move s c d.place ≡ with_list s c.list (Some list_now)
+  move_is = ap (λ o. with_list s c.list (option_map (λ (y : ListState). settled (entered (stands_in s.block y.len d.place) (left (stands_in s.block y.len c.place) y))) o)) is
+
+  move_here : list_at (with_move s c d.place) c.list ≡ Some list_now
+  move_here = ap (λ r. list_at r c.list) move_is ∙ list_here s c.list (Some list_now) (list_within s c.list x is)
+
+  move_other : (v : ℕ) → v ≢ c.list → list_at (with_move s c d.place) v ≡ list_at s v
+  move_other v ne = ap (λ r. list_at r v) move_is ∙ list_other s c.list v (Some list_now) ne
+
+  pub Relists-moved : Relists s (with_move s c d.place)
+  Relists-moved = subst (Relists s) (sym move_is) (Relists-one s c.list x list_now is (record {
+    len = refl;
+    filled = blank_len (least (entered to_block (left from_block x)).marks) x.values;
+    kept = blank_kept (least (entered to_block (left from_block x)).marks) x.values;
+  }))
+
+  module _ (marked : 0 < get_or x.marks from_block 0) (within : to_block < length x.marks) where
+    -- it takes its mark along
+    mark_moved : (v j : ℕ) → mark_in (with_move s c d.place) v j + stands_at s.block (len_of s v) v j (Some c) ≡ mark_in s v j + stands_at s.block (len_of s v) v j (Some d)
+    mark_moved v j = elim (cases_eq c.list v) [
+      | inl e ↦
+          omega (
+            arith,
+            ap (λ w. mark_in (with_move s c d.place) w j) (sym e),
+            mark_is (with_move s c d.place) c.list j list_now move_here,
+            ap (λ w. mark_in s w j) (sym e),
+            mark_is s c.list j x is,
+            stands_of s.block (len_of s v) x.len v j c e (ap (len_of s) (sym e) ∙ len_is s c.list x is),
+            stands_of s.block (len_of s v) x.len v j d (same ∙ e) (ap (len_of s) (sym e) ∙ len_is s c.list x is),
+            marks_left x.marks from_block j marked,
+            marks_entered (set x.marks from_block (get_or x.marks from_block 0 - 1)) to_block j (omega (arith, within, length-set x.marks from_block (get_or x.marks from_block 0 - 1))),
+          )
+      | inr ne ↦
+          omega (
+            arith,
+            ap (λ (o : Option ListState). option_map_or {U = ℕ} (λ l. get_or l.marks j 0) o 0) (move_other v (λ e. ne (sym e))),
+            stands_apart s.block (len_of s v) v j c ne,
+            stands_apart s.block (len_of s v) v j d (λ e. ne (sym same ∙ e)),
+          )
+    ]
+
+    -- and its list is read
+    now_read : 0 < cursors_of list_now
+    now_read =
+        omega (
+          arith,
+          sum_at list_now.marks to_block,
+          marks_entered (set x.marks from_block (get_or x.marks from_block 0 - 1)) to_block to_block (omega (arith, within, length-set x.marks from_block (get_or x.marks from_block 0 - 1))),
+          ap (λ b. cond {A = ℕ} b 1 0) (eq-eqb to_block to_block refl),
+        )
+
+-- ---- the table
+
+module _ (t : Table) (c d : CursorState) (cs : List (Option CursorState)) (table : IsTable t (Some c ∷ cs)) (same : d.list ≡ c.list) (computed : d.place ≤ computed_in t c.list) where
+  abbrev pub store_now : StoreState
+  store_now = with_move t.store c d.place
+
+  abbrev pub table_now : Table
+  table_now = record t { store = store_now }
+
+  pub its_list : (l : ListState) × (list_at t.store c.list ≡ Some l)
+  its_list = some_is (list_at t.store c.list) (table.held 0 c refl)
+
+  its_mark : 0 < get_or its_list.0.marks (stands_in t.store.block its_list.0.len c.place) 0
+  its_mark = subst (λ n. 0 < n) (ap (λ (o : Option ListState). option_map_or {U = ℕ} (λ x. get_or x.marks (stands_in t.store.block x.len c.place) 0) o 0) its_list.1) (cursor_counted t c cs table)
+
+  pub its_place : d.place ≤ min (length its_list.0.values * t.store.block) its_list.0.len
+  its_place =
+      omega (arith, computed, ap (λ (o : Option ListState). option_map_or {U = ℕ} (λ l. min (length l.values * t.block) l.len) o 0) its_list.1, ap (λ b. min (length its_list.0.values * b) its_list.0.len) table.block)
+
+  its_block : stands_in t.store.block its_list.0.len d.place < length its_list.0.marks
+  its_block = omega (arith, (table.store.lists c.list its_list.0 its_list.1).marks, stands_within t.store.block its_list.0.len d.place (length its_list.0.values) table.store.some its_place)
+
+  pub lists_now : Relists t.store store_now
+  lists_now = Relists-moved t.store c d same its_list.0 its_list.1
+
+  -- one cursor fewer where it stood, and one more where it stands
+  pub marks_now : (v j : ℕ) → mark_in store_now v j + stands_at t.block (len_of t.store v) v j (Some c) ≡ mark_in t.store v j + stands_at t.block (len_of t.store v) v j (Some d)
+  marks_now v j =
+      subst (λ b. mark_in store_now v j + stands_at b (len_of t.store v) v j (Some c) ≡ mark_in t.store v j + stands_at b (len_of t.store v) v j (Some d)) table.block
+      (mark_moved t.store c d same its_list.0 its_list.1 its_mark its_block v j)
+
+  pub IsTable-moved : StoreLaws store_now → IsTable table_now (Some d ∷ cs)
+  IsTable-moved laws =
+      IsTable-relisted t store_now (Some c ∷ cs) (Some d ∷ cs) table lists_now laws there
+      (λ v j l is. omega (arith, table.counted v j l is, marks_now v j, held_cons t (Some c) cs v j, held_cons t (Some d) cs v j))
+    where
+      there : (i : ℕ) (b : CursorState) → get_or (Some d ∷ cs) i None ≡ Some b → IsSome (list_at t.store b.list)
+      there zero b is = is_some_of _ its_list.0 (ap (list_at t.store) (sym (ap (λ (k : CursorState). k.list) (same_some is)) ∙ same) ∙ its_list.1)
+      there (suc i) b is = table.held (suc i) b is
+
+  pub IsRead-moved : IsRead t → IsRead table_now
+  IsRead-moved read v l is = elim (cases_eq v c.list) [
+    | inl e ↦
+        subst (λ k. 0 < cursors_of k)
+        (same_some (sym (move_here t.store c d same its_list.0 its_list.1) ∙ sym (ap (list_at store_now) e) ∙ is))
+        (now_read t.store c d same its_list.0 its_list.1 its_mark its_block)
+    | inr ne ↦ read v l (sym (move_other t.store c d same its_list.0 its_list.1 v ne) ∙ is)
   ]
 
-  tight_by : (w : ℕ) (x : UnitData) (q : ReadBy) → IsTightBy old w x q → IsTightBy new w x q
-  tight_by w x (Outside j) t = t
-  tight_by w x Nobody t = t
-  tight_by w x (Input p i) t =
-      let y = reader_there p t.0 t.2 in
-      (y.0, t.1, y.1, ap (λ ss. get_or (map Rattle.ny_heap.specs.Steps.reader_of ss) i None) (inputs y.0 t.0 y.2) ∙ t.3, t.4, t.5 ∙ ap (λ b. stands_in b x.timing.len t.1.place) (sym moves.same.block))
-    where
-      inputs : (a b : UnitData) → a.inputs ≡ b.inputs → a.inputs.items ≡ b.inputs.items
-      inputs a b e = ap (λ v. v.items) e
+  pub filled_now : (v : ℕ) (x : UnitData) → unit_at t v ≡ Some x → filled_in store_now v ≡ filled_in t.store v
+  filled_now v x at =
+      let u = table.units v x at in
+      let n = lists_now.to v u.0 u.1 in
+      ap (λ (o : Option ListState). option_map_or {U = ℕ} (λ k. length k.values) o 0) n.1 ∙ n.2.filled ∙ sym (ap (λ (o : Option ListState). option_map_or {U = ℕ} (λ k. length k.values) o 0) u.1)
 
-  pub IsHeap-moves : IsHeap new
-  IsHeap-moves = record {
-    table = moves.table;
-    tight = λ w x at. elim (cases_eq w n) [
-      | inl e ↦
-          let is : moves.now ≡ x = same_some (sym moves.after ∙ ap (unit_at new) (sym e) ∙ at) in
-          subst (IsTight new w) is (subst (IsTightBy new w moves.now) (sym (ap (λ (k : UnitData). k.reader) moves.is)) moves.gone)
-      | inr ne ↦ tight_by w x x.reader (heap.tight w x (sym (moves.others w ne) ∙ at))
-    ];
-    clean = λ w x at. elim (cases_eq w n) [
-      | inl e ↦
-          let is : moves.now ≡ x = same_some (sym moves.after ∙ ap (unit_at new) (sym e) ∙ at) in
-          subst (IsClean new) is (subst (IsClean new) (sym moves.is) (λ i r reads. let c = heap.clean n moves.was moves.there i r reads in (c.0, subst (λ b. moves.was.filled < blocks_of b moves.was.timing.len) (sym moves.same.block) c.1)))
-      | inr ne ↦ λ i r reads. let c = heap.clean w x (sym (moves.others w ne) ∙ at) i r reads in (c.0, subst (λ b. x.filled < blocks_of b x.timing.len) (sym moves.same.block) c.1)
-    ];
-    steps = λ w x at. elim (cases_eq w n) [
-      | inl e ↦
-          let is : x ≡ moves.now = same_some (sym at ∙ ap (unit_at new) e ∙ moves.after) in
-          let was = is ∙ moves.is in
-          in_step old.block new.block moves.was x moves.same.block (ap (λ (k : UnitData). k.work) was) (ap (λ (k : UnitData). k.timing) was) (ap (λ (k : UnitData). k.filled) was) (heap.steps n moves.was moves.there)
-      | inr ne ↦ in_step old.block new.block x x moves.same.block refl refl refl (heap.steps w x (sym (moves.others w ne) ∙ at))
-    ];
+  -- between two calls the heap is as it was, once the cursor is out of hand
+  pub IsHeap-moved : IsHeap t → IsTable table_now [] → IsHeap table_now
+  IsHeap-moved heap now = record {
+    table = now;
+    read = IsRead-moved heap.read;
+    clean = λ v i x k at inside cursor.
+        let w = heap.clean v i x k at inside cursor in
+        (w.0, subst (λ n. n < blocks_of t.block x.timing.len) (sym (filled_now v x at)) w.1);
+    needs = λ v i x k at inside cursor. heap.needs v i x k at inside cursor ∙ ap (taken_after t.block (kind_of x.work) x.timing (timing_at x i)) (sym (filled_now v x at));
+    exhausted = λ v i x at inside reader none more.
+        subst (λ n. (timing_at x i).len ≤ taken_after t.block (kind_of x.work) x.timing (timing_at x i) n) (sym (filled_now v x at))
+        (heap.exhausted v i x at inside reader none (subst (λ n. n < blocks_of t.block x.timing.len) (filled_now v x at) more));
   }
 
-  module _ (B : Type 0) (fills peak : ℕ) where
-    abbrev h : HeapState B
-    h = state_of old fills peak
+-- ---- what is read at once
 
-    pub moves_keep : KeepsMeaning {B = B} (state_of old fills peak) (state_of new fills peak)
-    moves_keep = keeps_by B h (state_of new fills peak) moves.same.block (λ v y at.
-        let x = unit_of_node B new fills peak v y at in
-        elim (cases_eq v n) [
-          | inl e ↦
-              let is : x.0 ≡ moves.now = same_some (sym x.1 ∙ ap (unit_at new) e ∙ moves.after) in
-              let was : unit_at old v ≡ Some moves.was = ap (unit_at old) e ∙ moves.there in
-              let now : unit_at new v ≡ Some moves.now = ap (unit_at new) e ∙ moves.after in
-              let y_is : y ≡ node_of moves.now = x.2 ∙ ap node_of is in (
-                node_of moves.was,
-                node_of_unit B old fills peak v moves.was was,
-                y_is ∙ outside_only y y_is,
-                λ j b k.
-                    block_at-state B old fills peak v j moves.was was
-                    ∙ content_part old new moves.was moves.now moves.same.block (ap (λ (q : UnitData). q.timing) moves.is) (omega (arith, moves.from, moves.gone)) (moves.kept ∙ ap (λ m. drop (m - moves.was.gone) moves.was.kept.items) (sym moves.gone)) (omega (arith, (moves.table.units v moves.now now).kept, (heap.table.units v moves.was was).kept, ap (λ (q : UnitData). q.filled) moves.is)) (moves.blocks v moves.now now) j b (sym (block_at-state B new fills peak v j moves.now now) ∙ k),
-              )
-          | inr ne ↦
-              let was : unit_at old v ≡ Some x.0 = sym (moves.others v ne) ∙ x.1 in (
-                node_of x.0,
-                node_of_unit B old fills peak v x.0 was,
-                x.2 ∙ ap (λ ms. record (node_of {B = B} x.0) { outside = ms }) (sym (ap (λ (z : Node B). z.outside) x.2)),
-                λ j b k.
-                    block_at-state B old fills peak v j x.0 was
-                    ∙ content_part old new x.0 x.0 moves.same.block refl (omega arith) (ap (λ m. drop m x.0.kept.items) (none x.0.gone)) refl (moves.blocks v x.0 x.1) j b (sym (block_at-state B new fills peak v j x.0 x.1) ∙ k),
-              )
-        ])
-      where
-        none : (m : ℕ) → 0 ≡ m - m
-        none m = omega arith
-
-        outside_only : (y : Node B) → y ≡ node_of {B = B} moves.now → node_of {B = B} moves.now ≡ record (node_of {B = B} moves.was) { outside = y.outside }
-        outside_only y e = ap node_of moves.is ∙ ap (λ ms. record (node_of {B = B} moves.was) { outside = ms }) (sym (ap (λ (z : Node B). z.outside) (e ∙ ap node_of moves.is)))
-
-    module _ (before later : Sound) (is_before : list_of before ≡ Some n) (is_later : list_of later ≡ Some n) (holder : Holder old before n) (at_to : to ≡ stands_in old.block moves.was.timing.len (place_of later)) where
-      abbrev less : Node B → Node B
-      less x = without_mark (stands_in old.block x.timing.len (place_of before)) x
-
-      abbrev more : Node B → Node B
-      more x = with_mark (stands_in old.block x.timing.len (place_of later)) x
-
-      abbrev mid : HeapState B
-      mid = changed h (Some n) less
-
-      abbrev last : HeapState B
-      last = changed mid (Some n) more
-
-      here : node_at last n ≡ Some (more (less (node_of moves.was)))
-      here =
-          let there = node_of_unit B old fills peak n moves.was moves.there in
-          let inside = within h.nodes n (ap is_some there) in
-          let first : node_at mid n ≡ Some (less (node_of moves.was)) = get_or-set_same h.nodes n (option_map less (node_at h n)) None inside ∙ ap (option_map less) there in
-          get_or-set_same mid.nodes n (option_map more (node_at mid n)) None (omega (arith, inside, length-set h.nodes n (option_map less (node_at h n)))) ∙ ap (option_map more) first
-
-      other : (w : ℕ) → w ≢ n → node_at last w ≡ node_at h w
-      other w ne = get_or-set_other mid.nodes n w (option_map more (node_at mid n)) None ne ∙ get_or-set_other h.nodes n w (option_map less (node_at h n)) None ne
-
-      marks_are : set (set (marks moves.was.reader (moves.was.filled + 1)) (stands_in old.block moves.was.timing.len (place_of before)) (get_or (marks moves.was.reader (moves.was.filled + 1)) (stands_in old.block moves.was.timing.len (place_of before)) 0 - 1)) (stands_in old.block moves.was.timing.len (place_of later)) (get_or (set (marks moves.was.reader (moves.was.filled + 1)) (stands_in old.block moves.was.timing.len (place_of before)) (get_or (marks moves.was.reader (moves.was.filled + 1)) (stands_in old.block moves.was.timing.len (place_of before)) 0 - 1)) (stands_in old.block moves.was.timing.len (place_of later)) 0 + 1) ≡ marks (Outside to) (moves.was.filled + 1)
-      marks_are =
-          let j = stands_in old.block moves.was.timing.len (place_of before) in
-          let k = stands_in old.block moves.was.timing.len (place_of later) in
-          let count = moves.was.filled + 1 in
-          let same = same_some (sym moves.there ∙ holder.there) in
-          let reader : moves.was.reader ≡ Outside j = ap (λ (q : UnitData). q.reader) same ∙ holder.reader ∙ ap (λ (q : UnitData). Outside (stands_in old.block q.timing.len (place_of before))) (sym same) in
-          let blank : set (marks moves.was.reader count) j (get_or (marks moves.was.reader count) j 0 - 1) ≡ replicate {A = ℕ} count 0 = ap (λ q. set (marks q count) j (get_or (marks q count) j 0 - 1)) reader ∙ unmarked j count in
-          let one : get_or (replicate {A = ℕ} count 0) k 0 + 1 ≡ 1 = omega (arith, zeros_at count k) in
-          ap (λ ms. set ms k (get_or ms k 0 + 1)) blank ∙ ap (set (replicate {A = ℕ} count 0) k) one ∙ ap (λ m. set (replicate {A = ℕ} count 0) m 1) (sym at_to)
-
-      node_is : more (less (node_of {B = B} moves.was)) ≡ node_of moves.now
-      node_is = ap (λ ms. record (node_of {B = B} moves.was) { outside = ms }) marks_are ∙ sym (ap node_of moves.is)
-
-      read_trims : IsTrimmed last (state_of new fills peak)
-      read_trims = trimmed_by B last new fills peak moves.same.pool moves.same.block refl refl
-          (λ v y at. elim (cases_eq v n) [
-            | inl e ↦ ap (node_at last) e ∙ here ∙ ap Some (node_is ∙ ap node_of (same_some (sym moves.after ∙ ap (unit_at new) (sym e) ∙ at)))
-            | inr ne ↦ other v ne ∙ node_of_unit B old fills peak v y (sym (moves.others v ne) ∙ at)
-          ])
-          (λ v out. present v out.unit out.there)
-          (λ p v left uses. used p v uses (cases_eq p n))
-        where
-          present : (v : ℕ) (y : Node B) → node_at last v ≡ Some y → IsSome (unit_at new v)
-          present v y at = elim (cases_eq v n) [
-            | inl e ↦ ap is_some (ap (unit_at new) e ∙ moves.after)
-            | inr ne ↦ let x = unit_of_node B old fills peak v y (sym (other v ne) ∙ at) in ap is_some (moves.others v ne ∙ x.1)
-          ]
-
-          used : (p v : ℕ) → Uses last p v → (p ≡ n) ⊎ (p ≢ n) → IsSome (unit_at new v)
-          used p v uses (inr ne) =
-              let reads = uses_input B old fills peak p v (uses_same last h p v (other p ne) uses) in
-              let found = heap.table.finds p reads.1 reads.0 reads.2 reads.3 reads.4 in
-              ap is_some (reader_there v found.0 (ap (unit_at old) (sym reads.5) ∙ found.1)).1
-          used p v uses (inl e) =
-              let same : node_at last p ≡ node_at {B = B} (state_of new fills peak) p = ap (node_at last) e ∙ here ∙ ap Some node_is ∙ sym (node_of_unit B new fills peak n moves.now moves.after) ∙ ap (node_at {B = B} (state_of new fills peak)) (sym e) in
-              let reads = uses_input B new fills peak p v (uses_same last (state_of new fills peak) p v same uses) in
-              let found = moves.table.finds p reads.1 reads.0 reads.2 reads.3 reads.4 in
-              ap is_some (ap (unit_at new) (sym reads.5) ∙ found.1)
-
-      pub read_is : IsTrimmed {B = B} (advanced (state_of old fills peak) before later) (state_of new fills peak)
-      read_is = subst (λ o. IsTrimmed (changed (changed h o less) (list_of later) (λ x. with_mark (stands_in (changed h o less).block x.timing.len (place_of later)) x)) (state_of new fills peak)) (sym is_before) (subst (λ o. IsTrimmed (changed mid o more) (state_of new fills peak)) (sym is_later) read_trims)
-
--- ---- the samples
-
-pub item_means : (B : Type 0) (t : Table) (table : IsTable t) (fills peak : ℕ) (part : Parts B) (w : Whole) → Means part (state_of t fills peak) w → (n q : ℕ) (x : UnitData) → unit_at t n ≡ Some x → x.gone ≤ q / t.block → q / t.block < x.filled → item_in t x q ≡ get_or (w.samples n) q (pos 0)
-item_means B t table fills peak part w means n q x at low high =
-    let unit = table.units n x at in
-    let b = some_is (in_block t.pool (id_in x.kept.items (q / t.block - x.gone))) (unit.taken (q / t.block - x.gone) (omega (arith, unit.kept))) in
-    let content : get_or (contents_of t x) (q / t.block) None ≡ Some (take (x.timing.len - q / t.block * t.block) b.0) = content_kept t x (q / t.block) low (omega (arith, high, unit.kept)) ∙ ap (option_map (take (x.timing.len - q / t.block * t.block))) b.1 in
-    let is = (means n (node_of x) (node_of_unit B t fills peak n x at)).kept (q / t.block) (take (x.timing.len - q / t.block * t.block) b.0) (block_at-state B t fills peak n (q / t.block) x at ∙ content) in
-    ap (λ o. item_of o (q % t.block)) content ∙ ap (λ xs. get_or xs (q % t.block) (pos 0)) is ∙ nth_item t.block (w.samples n) q table.positive
-
-pub read_samples : (B : Type 0) (t : Table) (table : IsTable t) (fills peak : ℕ) (part : Parts B) (w : Whole) → Means part (state_of t fills peak) w → (s : Sound) (n run : ℕ) (x : UnitData) (old new : List ℤ) → list_of s ≡ Some n → unit_at t n ≡ Some x → place_of s + run ≤ s.timing.len → s.timing.len ≤ x.timing.len → Copies t x (place_of s) run old new → new ≡ take run (drop (place_of s) (sound_in w.samples (list_of s) s.timing).samples) ++ drop run old
-read_samples B t table fills peak part w means s n run x old new is at seen visible copies =
-    subst (λ o. new ≡ take run (drop (place_of s) (sound_in w.samples o s.timing).samples) ++ drop run old) (sym is) (ext_get_or (pos 0) new (take run (drop p xs) ++ drop run old) long (λ k h. elim (cases_lt k run) [
-      | inl here ↦
-          copies.here k here
-          ∙ item k here
-          ∙ sym (get_or_append_left (take run (drop p xs)) (drop run old) (pos 0) k (omega (arith, here, front)) ∙ get_or-take run (drop p xs) k (pos 0) here ∙ get_or-drop p xs k (pos 0) ∙ get_or-take s.timing.len (w.samples n) (p + k) (pos 0) (omega (arith, here, seen)))
-      | inr past ↦
-          copies.after k past
-          ∙ sym (get_or-append_right (take run (drop p xs)) (drop run old) run k (pos 0) front past ∙ get_or-drop run old (k - run) (pos 0) ∙ ap (λ m. get_or old m (pos 0)) (back k past))
-    ]))
+taken_less : (n k : ℕ) (xs : List ℤ) → n ≤ k → take n (take k xs) ≡ take n xs
+taken_less zero k xs less = refl
+taken_less (suc n) k [] less = ap (take (suc n)) (none k)
   where
-    p : ℕ
-    p = place_of s
+    none : (k : ℕ) → take {A = ℤ} k [] ≡ []
+    none zero = refl
+    none (suc k) = refl
+taken_less (suc n) zero (x ∷ xs) less = absurd (omega (arith, less))
+taken_less (suc n) (suc k) (x ∷ xs) less = ap (λ ys. x ∷ ys) (taken_less n k xs (omega (arith, less)))
 
-    xs : List ℤ
-    xs = take s.timing.len (w.samples n)
+block_start : (place block : ℕ) → place / block * block + place % block ≡ place
+block_start place block = omega (arith, mod-eq-sub-div-mul place block, div-mul-le_self place block)
 
-    whole : length (w.samples n) ≡ x.timing.len
-    whole = (means n (node_of x) (node_of_unit B t fills peak n x at)).len
+-- the least cursor of a list stands no later than one that has not passed all of it
+least_before : (s : StoreState) (c : CursorState) (x : ListState) → list_at s c.list ≡ Some x → 0 < mark_at s c → c.place < x.len → least x.marks ≤ c.place / s.block
+least_before s c x is stands before =
+    let here : stands_in s.block x.len c.place ≡ c.place / s.block = ap (λ b. cond {A = ℕ} b (blocks_of s.block x.len) (c.place / s.block)) (ne_eqb c.place x.len (λ e. omega (arith, e, before))) in
+    let seen : 0 < get_or x.marks (stands_in s.block x.len c.place) 0 = subst (λ n. 0 < n) (ap (λ (o : Option ListState). option_map_or {U = ℕ} (λ y. get_or y.marks (stands_in s.block y.len c.place) 0) o 0) is) stands in
+    subst (λ n. least x.marks ≤ n) here (least_at x.marks (stands_in s.block x.len c.place) seen)
 
-    front : length (take run (drop p xs)) ≡ run
-    front = omega (arith, length-take run (drop p xs), length-drop p xs, length-take s.timing.len (w.samples n), whole, seen, visible)
+-- the block in which a cursor stands, where the list is computed further
+block_held : (s : StoreState) (c : CursorState) (x : ListState) → StoreLaws s → 0 < mark_at s c → list_at s c.list ≡ Some x → c.place < min (length x.values * s.block) x.len
+    → (samples : List ℤ) × (get_or x.values (c.place / s.block) None ≡ Some samples)
+block_held s c x laws stands is less =
+    let filled : c.place / s.block < length x.values = (div-lt_iff_lt-mul {k = s.block} {x = c.place} {y = length x.values} laws.some).1 (omega (arith, less)) in
+    some_is (get_or x.values (c.place / s.block) None) (((laws.lists c.list x is).kept (c.place / s.block) filled).1 (least_before s c x is stands (omega (arith, less))))
 
-    long : length new ≡ length (take run (drop p xs) ++ drop run old)
-    long = omega (arith, copies.len, copies.room, length-append (take run (drop p xs)) (drop run old), front, length-drop run old)
+-- past what is computed a list has nothing
+block_rest : (s : StoreState) (c : CursorState) (x : ListState) → StoreLaws s → list_at s c.list ≡ Some x → min (length x.values * s.block) x.len ≤ c.place → length (block_of x (c.place / s.block)) ≤ c.place % s.block
+block_rest s c x laws is past = by (get_or x.values (c.place / s.block) None) refl
+  where
+    by : (o : Option (List ℤ)) → get_or x.values (c.place / s.block) None ≡ o → length (option_map_or (λ samples. samples) o []) ≤ c.place % s.block
+    by None e = omega arith
+    by (Some b) e =
+        let filled : c.place / s.block < length x.values = place_within x.values (c.place / s.block) b e in
+        let inside : c.place < length x.values * s.block = (div-lt_iff_lt-mul {k = s.block} {x = c.place} {y = length x.values} laws.some).0 filled in
+        omega (arith, (laws.lists c.list x is).whole (c.place / s.block) b e, block_start c.place s.block, inside, past)
 
-    back : (k : ℕ) → run ≤ k → run + (k - run) ≡ k
-    back k past = omega arith
+run_is : (s : StoreState) (c : CursorState) (x : ListState) → list_at s c.list ≡ Some x → length (lists.run_of s c c.place) ≡ min (c.visible - c.place) (length (block_of x (c.place / s.block)) - c.place % s.block)
+run_is s c x is =
+    omega (
+      arith,
+      ap (λ (o : Option ListState). length (option_map_or (λ y. take (c.visible - c.place) (drop (c.place % s.block) (block_of y (c.place / s.block)))) o [])) is,
+      length-take (c.visible - c.place) (drop (c.place % s.block) (block_of x (c.place / s.block))),
+      length-drop (c.place % s.block) (block_of x (c.place / s.block)),
+    )
 
-    item : (k : ℕ) → k < run → item_in t x (p + k) ≡ get_or (w.samples n) (p + k) (pos 0)
-    item k here =
-        let kept = copies.kept (omega arith) in
-        let j = div_on t.block p k (omega (arith, kept.1, Rattle.std.proofs.Math.Nat.mod-lt p table.positive)) in
-        item_means B t table fills peak part w means n (p + k) x at (omega (arith, kept.0, j)) (div_less t.block (p + k) x.filled (omega (arith, copies.seen, here)))
+-- to the end of its block, of what is computed and of what the cursor sees
+pub run_long : (s : StoreState) (c : CursorState) (x : ListState) → StoreLaws s → 0 < mark_at s c → list_at s c.list ≡ Some x
+    → length (lists.run_of s c c.place) ≡ min ((c.place / s.block + 1) * s.block) (min (min (length x.values * s.block) x.len) c.visible) - c.place
+run_long s c x laws stands is = elim (cases_lt c.place (min (length x.values * s.block) x.len)) [
+  | inl less ↦
+      let held = block_held s c x laws stands is less in
+      let long : length held.0 ≡ min (x.len - c.place / s.block * s.block) s.block = (laws.lists c.list x is).whole (c.place / s.block) held.0 held.1 in
+      let filled : c.place / s.block < length x.values = place_within x.values (c.place / s.block) held.0 held.1 in
+      let next : c.place / s.block * s.block + s.block ≡ (c.place / s.block + 1) * s.block = omega (arith, suc-mul (c.place / s.block) s.block) in
+      let upto : (c.place / s.block + 1) * s.block ≤ length x.values * s.block = mul-le (c.place / s.block + 1) s.block (length x.values) s.block (omega (arith, filled)) (omega arith) in
+      omega (
+        arith,
+        run_is s c x is,
+        ap (λ (o : Option (List ℤ)). length (option_map_or (λ samples. samples) o [])) held.1,
+        long,
+        block_start c.place s.block,
+        mod-lt c.place laws.some,
+        next,
+        upto,
+        less,
+      )
+  | inr past ↦ omega (arith, run_is s c x is, block_rest s c x laws is past, past)
+]
 
-pub computed_at : (B : Type 0) (t : Table) (fills peak n : ℕ) (o : Option ℕ) (x : UnitData) → o ≡ Some n → unit_at t n ≡ Some x → computed_in {B = B} (state_of t fills peak) o ≡ min (x.filled * t.block) x.timing.len
-computed_at B t fills peak n o x e at = ap (computed_in {B = B} (state_of t fills peak)) e ∙ ap (λ (q : Option (Node B)). option_map_or (computed_of {B = B} t.block) q 0) (node_of_unit B t fills peak n x at)
+-- the samples of a whole list
+pub run_copied : (s : StoreState) (c : CursorState) (n : ℕ) (xs : List ℤ) → Shows s c.list xs → n ≤ length (lists.run_of s c c.place) → take n (lists.run_of s c c.place) ≡ take n (drop c.place (take c.visible xs))
+run_copied s c n xs shows few =
+    ap (take n) (run_shown s c c.place xs shows) ∙ taken_less n (length (lists.run_of s c c.place)) (drop c.place xs) few
+    ∙ sym (by (cases_lt c.visible c.place))
+  where
+    by : (c.visible < c.place) ⊎ (c.place ≤ c.visible) → take n (drop c.place (take c.visible xs)) ≡ take n (drop c.place xs)
+    by (inl before) =
+        let none : n ≡ 0 = omega (arith, few, run_seen_few s c c.place, before) in
+        ap (λ k. take k (drop c.place (take c.visible xs))) none ∙ sym (ap (λ k. take k (drop c.place xs)) none)
+    by (inr after) =
+        let e : c.place + (c.visible - c.place) ≡ c.visible = omega (arith, after) in
+        ap (λ k. take n (drop c.place (take k xs))) (sym e) ∙ ap (take n) (drop-take c.place (c.visible - c.place) xs)
+        ∙ taken_less n (c.visible - c.place) (drop c.place xs) (omega (arith, few, run_seen_few s c c.place))
+
+-- k is the cursor c, which sees so many samples
+module _ (t : Table) (c k : CursorState) (cs : List (Option CursorState)) (visible : ℕ) (table : IsTable t (Some c ∷ cs)) (sees : k ≡ record c { visible = visible }) where
+  pub seen_marked : 0 < mark_at t.store k
+  seen_marked = subst (λ (q : CursorState). 0 < mark_at t.store q) (sym sees) (cursor_counted t c cs table)
+
+  seen_list : (l : ListState) × (list_at t.store k.list ≡ Some l)
+  seen_list = some_is (list_at t.store k.list) (subst (λ (q : CursorState). IsSome (list_at t.store q.list)) (sym sees) (table.held 0 c refl))
+
+  seen_computed : computed_in t c.list ≡ min (length seen_list.0.values * t.store.block) seen_list.0.len
+  seen_computed =
+      ap (λ (q : CursorState). computed_in t q.list) (sym sees)
+      ∙ ap (λ (o : Option ListState). option_map_or {U = ℕ} (λ l. min (length l.values * t.block) l.len) o 0) seen_list.1
+      ∙ ap (λ b. min (length seen_list.0.values * b) seen_list.0.len) (sym table.block)
+
+  module _ (run out : List ℤ) (n : ℕ) (is : run ≡ lists.run_of t.store k k.place) (count : n ≡ min (length run) (length out)) where
+    long : length run ≡ min ((k.place / t.store.block + 1) * t.store.block) (min (min (length seen_list.0.values * t.store.block) seen_list.0.len) k.visible) - k.place
+    long = ap length is ∙ run_long t.store k seen_list.0 table.store seen_marked seen_list.1
+
+    pub run_count : n ≡ run_of t.block (computed_in t c.list) visible c.place (length out)
+    run_count =
+        count ∙ omega (arith, long) ∙ ap (λ (q : CursorState). run_of t.store.block (min (length seen_list.0.values * t.store.block) seen_list.0.len) q.visible q.place (length out)) sees
+        ∙ ap (λ m. run_of t.store.block m visible c.place (length out)) (sym seen_computed)
+        ∙ ap (λ b. run_of b (computed_in t c.list) visible c.place (length out)) table.block
+
+    pub run_passed : c.place ≤ computed_in t c.list → IsComputed t.store k n
+    run_passed computed = record { list = seen_list.0; there = seen_list.1; computed = omega (arith, count, long, computed, seen_computed, ap (λ (q : CursorState). q.place) sees) }
+
+    pub run_samples : (xs : List ℤ) → Shows t.store c.list xs → take n run ++ drop n out ≡ take n (drop c.place (take visible xs)) ++ drop n out
+    run_samples xs shows =
+        ap (λ ys. ys ++ drop n out)
+        (ap (take n) is ∙ run_copied t.store k n xs (subst (λ (q : CursorState). Shows t.store q.list xs) (sym sees) shows) (omega (arith, count, ap length is))
+        ∙ ap (λ (q : CursorState). take n (drop q.place (take q.visible xs))) sees)

@@ -1,89 +1,131 @@
--- What a unit wants, by the table.
-use Rattle.std.proofs.Common.{◌≡◌, inl, inr, ℕ, zero, suc, ◌+◌, ◌*◌, ◌<◌, ◌≤◌, min, Bool, true, false, cond, nat_lt, List, [], ◌∷◌, length, get_or, map, Option, None, Some, is_some, IsSome, IsSomeAnd, IsTrue, refl, sym, ap, ◌∙◌, arith}
-use Rattle.std.proofs.lemmas.List.{get_or-map}
-use Rattle.std.proofs.lemmas.Bool.{lt-ltb, ltb-true}
-use Rattle.std.specs.Option.{option_map, option_map_or}
-use Rattle.ny_heap.specs.declared.sound.Sound.{Sound}
+-- What a unit wants, and heaps without units.
+use Rattle.std.proofs.Common.{◌≡◌, ℕ, zero, suc, ◌+◌, ◌-◌, ◌<◌, ◌≤◌, ◌^◌, List, [], ◌∷◌, length, get_or, replicate, Option, None, Some, IsSome, is_some, count_by, refl, sym, ap, subst, ◌∙◌, arith, cond}
+use Rattle.std.specs.Option.{option_map}
+use Rattle.std.proofs.lemmas.List.{length-replicate}
+use Rattle.ny_list.specs.Store.{ListState, CursorState, list_at}
+use Rattle.ny_list.specs.Laws.{StoreLaws}
+use Rattle.ny_list.proofs.IndexLemmas.{none_some}
 use Rattle.ny_heap.specs.declared.table.Unit.{Unit as UnitData}
 use Rattle.ny_heap.specs.declared.table.Table.{Table}
-use Rattle.ny_heap.specs.Heap.{Reader, Node, node_at, list_of, is_open, open_unit, blocks_of, computed_of}
-use Rattle.ny_heap.specs.Steps.{reader_of, lacks, wants, want_of}
-use Rattle.ny_heap.specs.Table.{unit_at, kind_of, IsTable, IsReady, reach_of, taken_by_reach, lacks_for, lacking, list_in}
-use Rattle.ny_heap.specs.View.{node_of, state_of}
-use Rattle.ny_heap.proofs.TableLemmas.{none_some}
-use Rattle.ny_heap.proofs.DropLemmas.{reader_in}
-use Rattle.ny_heap.proofs.PassLemmas.{some_and}
-use Rattle.ny_heap.proofs.NeedLemmas.{taken_at}
-use Rattle.ny_heap.proofs.ViewLemmas.{node_at-state, node_of_unit, unit_of_node}
+use Rattle.ny_heap.specs.Work.{inputs_in, cursor_at}
+use Rattle.ny_heap.specs.Table.{unit_at, IsTable, IsThere, lacks_in, lacking_from, or_else}
+use Rattle.ny_heap.specs.View.{IsHeapInside}
+use Rattle.ny_heap.proofs.CountLemmas.{is_some_of}
+use Rattle.ny_heap.proofs.DropLemmas.{there_of}
+use Rattle.std.proofs.Common.{Bool, false, nat_lt}
+use Rattle.std.specs.Option.{option_map_or}
+use Rattle.ny_heap.specs.declared.sound.Sound.{Sound}
+use Rattle.ny_heap.specs.Heap.{Node, list_of, open_unit, is_open, blocks_of}
+use Rattle.ny_heap.specs.Steps.{IsCounted, IsHeldAt, IsHeldSound}
+use Rattle.ny_heap.specs.Table.{is_open_in}
+use Rattle.ny_heap.specs.View.{state_of, filled_in}
+use Rattle.ny_heap.proofs.ViewLemmas.{unit_of_node, node_of_unit, filled_is}
 
 -- what an input reads is there
-pub input_there : (t : Table) (u i n : ℕ) (x : UnitData) (s : Sound) → IsTable t → unit_at t u ≡ Some x → i < length x.inputs.items → s ≡ get_or x.inputs.items i s → list_of s ≡ Some n → IsSome (unit_at t n)
-input_there t u i n x s table at inside is reads =
-    let here : list_in x.inputs.items i ≡ Some n = get_or-map list_of x.inputs.items i s None inside ∙ ap list_of (sym is) ∙ reads in
-    let r = reader_in x.inputs.items i n here in
-    let found = table.finds u i x r.0 at r.1 in
-    ap is_some (ap (unit_at t) (sym r.2) ∙ found.1)
-
-module _ (B : Type 0) (t : Table) (fills peak : ℕ) where
-  computed_at : (o : Option UnitData) → option_map_or (computed_of {B = B} t.block) (option_map node_of o) 0 ≡ option_map_or (λ z. min (z.filled * t.block) z.timing.len) o 0
-  computed_at None = refl
-  computed_at (Some z) = refl
-
-  lacks_is : (x : UnitData) (o : Option Reader) → lacks {B = B} (state_of t fills peak) (node_of x) o ≡ lacks_for t (reach_of t.block x.timing (x.filled + 1)) o
-  lacks_is x None = refl
-  lacks_is x (Some r) = λ i. nat_lt ((ap (λ o. option_map_or (computed_of {B = B} t.block) o 0) (node_at-state B t fills peak r.node) ∙ computed_at (unit_at t r.node)) i) (taken_at t.block (kind_of x.work) x.timing r.timing (x.filled + 1) (omega arith) i)
-
-  wants_is : (x : UnitData) (os : List (Option Reader)) → wants {B = B} (state_of t fills peak) (node_of x) os ≡ lacking t (reach_of t.block x.timing (x.filled + 1)) os
-  wants_is x [] = refl
-  wants_is x (o ∷ os) = λ i. cond (lacks_is x o i) (option_map (λ (r : Reader). r.node) o) (wants_is x os i)
-
-  pub want_is : (u : ℕ) (x : UnitData) → unit_at t u ≡ Some x → want_of {B = B} (state_of t fills peak) u ≡ lacking t (reach_of t.block x.timing (x.filled + 1)) (map reader_of x.inputs.items)
-  want_is u x at = ap (λ (o : Option (Node B)). option_map_or (λ y. wants (state_of t fills peak) y y.inputs) o None) (node_of_unit B t fills peak u x at) ∙ wants_is x (map reader_of x.inputs.items)
-
-  -- an open unit, by the table
-  pub open_is : (u : ℕ) → IsSomeAnd (node_at {B = B} (state_of t fills peak) u) (λ x. IsTrue (is_open t.block x)) → (x : UnitData) × (unit_at t u ≡ Some x) × (x.filled < blocks_of t.block x.timing.len)
-  open_is u opened =
-      let y = some_and _ _ opened in
-      let x = unit_of_node B t fills peak u y.0 y.1 in
-      (x.0, x.1, ltb-true x.0.filled (blocks_of t.block x.0.timing.len) (ap (λ (z : Node B). is_open t.block z) (sym x.2) ∙ y.2))
-
-  pub unit_is : (n : ℕ) (x : UnitData) (b : Bool) → unit_at t n ≡ Some x → b ≡ nat_lt x.filled (blocks_of t.block x.timing.len) → open_unit {B = B} (state_of t fills peak) (Some n) ≡ cond b (Some n) None
-  unit_is n x b at is = ap (λ (o : Option (Node B)). option_map_or (λ y. cond (is_open t.block y) (Some n) None) o None) (node_of_unit B t fills peak n x at) ∙ ap (λ c. cond c (Some n) None) (sym is)
-
--- where nothing lacks, each is computed far enough
-nothing_lacks : (t : Table) (reach : ℕ) (os : List (Option Reader)) → lacking t reach os ≡ None → (i : ℕ) (r : Reader) (z : UnitData) → get_or os i None ≡ Some r → unit_at t r.node ≡ Some z → taken_by_reach reach r.timing ≤ min (z.filled * t.block) z.timing.len
-nothing_lacks t reach [] none i r z reads there = absurd (none_some reads)
-nothing_lacks t reach (o ∷ os) none zero r z reads there = by_test (lacks_for t reach o) refl none
+pub list_there : (t : Table) (o : Option CursorState) (v : ℕ) → ((c : CursorState) → o ≡ Some c → IsThere t c.list) → Some v ≡ option_map (λ (c : CursorState). c.list) o → IsThere t v
+list_there t None v there is = absurd (none_some (sym is))
+list_there t (Some c) v there is = subst (IsThere t) (same is) (there c refl)
   where
-    by_test : (b : Bool) → lacks_for t reach o ≡ b → cond b (option_map (λ (q : Reader). q.node) o) (lacking t reach os) ≡ None → taken_by_reach reach r.timing ≤ min (z.filled * t.block) z.timing.len
-    by_test true e h = absurd (none_some (sym h ∙ ap (option_map (λ (q : Reader). q.node)) reads))
-    by_test false e h =
-        let test : nat_lt (min (z.filled * t.block) z.timing.len) (taken_by_reach reach r.timing) ≡ false = ap (λ p. nat_lt (option_map_or (λ y. min (y.filled * t.block) y.timing.len) p 0) (taken_by_reach reach r.timing)) (sym there) ∙ ap (lacks_for t reach) (sym reads) ∙ e in
-        elim (Rattle.std.proofs.lemmas.Bool.cases_lt (min (z.filled * t.block) z.timing.len) (taken_by_reach reach r.timing)) [
-          | inl less ↦ absurd (Rattle.std.proofs.lemmas.Bool.true≢false (sym (lt-ltb _ _ less) ∙ test))
-          | inr far ↦ far
-        ]
-nothing_lacks t reach (o ∷ os) none (suc i) r z reads there = by_test (λ h. nothing_lacks t reach os h i r z reads there) (lacks_for t reach o) refl none
-  where
-    by_test : (lacking t reach os ≡ None → taken_by_reach reach r.timing ≤ min (z.filled * t.block) z.timing.len) → (b : Bool) → lacks_for t reach o ≡ b → cond b (option_map (λ (q : Reader). q.node) o) (lacking t reach os) ≡ None → taken_by_reach reach r.timing ≤ min (z.filled * t.block) z.timing.len
-    by_test rest false e h = rest h
-    by_test rest true e h = absurd (some_lacks o e h)
-      where
-        some_lacks : (p : Option Reader) → lacks_for t reach p ≡ true → option_map (λ (q : Reader). q.node) p ≡ None → ⊥
-        some_lacks None f g = Rattle.std.proofs.lemmas.Bool.true≢false (sym f)
-        some_lacks (Some q) f g = none_some (sym g)
+    same : {a b : ℕ} → Some a ≡ Some b → b ≡ a
+    same q = cc
 
--- an open unit that wants nothing is ready
-pub is_ready : (B : Type 0) (t : Table) (fills peak u : ℕ) → IsSomeAnd (node_at {B = B} (state_of t fills peak) u) (λ x. IsTrue (is_open t.block x)) → want_of {B = B} (state_of t fills peak) u ≡ None → IsReady t u
-is_ready B t fills peak u opened none =
-    let x = open_is B t fills peak u opened in
-    record {
-      unit = x.0;
-      there = x.1;
-      opened = x.2;
-      computed = λ i r z reads there. omega (
-        arith,
-        nothing_lacks t (reach_of t.block x.0.timing (x.0.filled + 1)) (map reader_of x.0.inputs.items) (sym (want_is B t fills peak u x.0 x.1) ∙ none) i r z reads there,
-        taken_at t.block (kind_of x.0.work) x.0.timing r.timing (x.0.filled + 1) (omega arith),
-      );
-    }
+pub inputs_there : (t : Table) (u i : ℕ) (x : UnitData) → IsTable t [] → unit_at t u ≡ Some x → i < inputs_in x.work → (c : CursorState) → cursor_at x.work i ≡ Some c → IsThere t c.list
+inputs_there t u i x table at inside c cursor =
+    let l = table.units u x at in
+    let a = table.inputs u i x l.0 c at l.1 (omega (arith, inside, l.2.count)) cursor in
+    there_of t c.list [] table (is_some_of _ a.0 a.1)
+
+-- no input before i lacks
+pub record NoneLacks (t : Table) (x : UnitData) (done count i : ℕ) : Type 0 where
+  pub counts : count ≡ inputs_in x.work
+  pub within : i ≤ count
+  pub rest : lacking_from t x done 0 count ≡ lacking_from t x done i (count - i)
+
+pub NoneLacks-begun : (t : Table) (x : UnitData) (done count : ℕ) → count ≡ inputs_in x.work → NoneLacks t x done count 0
+NoneLacks-begun t x done count is = record { counts = is; within = omega arith; rest = let e : count ≡ count - 0 = omega arith in ap (lacking_from t x done 0) e }
+
+next_lacks : (t : Table) (x : UnitData) (done count i : ℕ) → i < count → NoneLacks t x done count i → lacking_from t x done 0 count ≡ or_else (lacks_in t x done (cursor_at x.work i) i) (lacking_from t x done (i + 1) (count - (i + 1)))
+next_lacks t x done count i inside n = let e : count - i ≡ suc (count - (i + 1)) = omega (arith, inside) in n.rest ∙ ap (lacking_from t x done i) e
+
+pub NoneLacks-more : (t : Table) (x : UnitData) (done count i : ℕ) → i < count → NoneLacks t x done count i → None ≡ lacks_in t x done (cursor_at x.work i) i → NoneLacks t x done count (i + 1)
+NoneLacks-more t x done count i inside n none = record {
+  counts = n.counts;
+  within = omega (arith, inside);
+  rest = next_lacks t x done count i inside n ∙ ap (λ o. or_else o (lacking_from t x done (i + 1) (count - (i + 1)))) (sym none);
+}
+
+pub NoneLacks-found : (t : Table) (x : UnitData) (done count i v : ℕ) → i < count → NoneLacks t x done count i → Some v ≡ lacks_in t x done (cursor_at x.work i) i → Some v ≡ lacking_from t x done 0 (inputs_in x.work)
+NoneLacks-found t x done count i v inside n some =
+    sym (ap (lacking_from t x done 0) (sym n.counts) ∙ next_lacks t x done count i inside n ∙ ap (λ o. or_else o (lacking_from t x done (i + 1) (count - (i + 1)))) (sym some))
+
+pub NoneLacks-done : (t : Table) (x : UnitData) (done count i : ℕ) → count ≤ i → NoneLacks t x done count i → None ≡ lacking_from t x done 0 (inputs_in x.work)
+NoneLacks-done t x done count i past n =
+    let e : count - i ≡ 0 = omega (arith, past) in
+    sym (ap (lacking_from t x done 0) (sym n.counts) ∙ n.rest ∙ ap (lacking_from t x done i) e)
+
+-- ---- no units
+
+none_some_count : (n : ℕ) → count_by is_some (replicate {A = Option (List Rattle.std.proofs.Common.ℤ)} n None) ≡ 0
+none_some_count n = omega (arith, Rattle.std.proofs.lemmas.List.Folds.sum_by-replicate (λ (o : Option (List Rattle.std.proofs.Common.ℤ)). cond {A = ℕ} (is_some o) 1 0) n None)
+
+pub opened_inside : (t : Table) (pool block : ℕ) (out : List Rattle.std.proofs.Common.ℤ) → t.store ≡ record { block = block; lists = []; loose = replicate pool None } → t.units.items ≡ [] → t.block ≡ block → StoreLaws t.store → length out ≡ block → IsHeapInside t pool 0 0 out
+opened_inside t pool block out store units same laws size = record {
+  heap = record {
+    table = record {
+      store = laws;
+      block = ap (λ s. s.block) store ∙ sym same;
+      loose = ap (λ s. count_by is_some s.loose) store ∙ none_some_count pool;
+      units = λ v x at. absurd (no_unit v x at);
+      lists = λ v some. absurd (no_list v some);
+      inputs = λ v i x k c at. absurd (no_unit v x at);
+      held = λ i c is. absurd (none_some is);
+      counted = λ v j l is. absurd (no_list v (is_some_of _ l is));
+      rank = λ v. 0;
+      bound = 0;
+      below = λ v x at. absurd (no_unit v x at);
+      falls = λ v i x c at. absurd (no_unit v x at);
+    };
+    read = λ v l is. absurd (no_list v (is_some_of _ l is));
+    clean = λ v i x c at. absurd (no_unit v x at);
+    needs = λ v i x c at. absurd (no_unit v x at);
+    exhausted = λ v i x at. absurd (no_unit v x at);
+  };
+  counted = sym (ap (λ s. length s.loose) store ∙ length-replicate {A = Option (List Rattle.std.proofs.Common.ℤ)} pool None);
+  reached = omega arith;
+  few = omega arith;
+  whole = size ∙ sym same;
+}
+  where
+    nothing : {A : Type 0} (v : ℕ) → get_or {A = Option A} [] v None ≡ None
+    nothing zero = refl
+    nothing (suc v) = refl
+
+    no_unit : (v : ℕ) (x : UnitData) → unit_at t v ≡ Some x → ⊥
+    no_unit v x at = none_some (sym (nothing v) ∙ sym (ap (λ xs. get_or xs v None) units) ∙ at)
+
+    no_list : (v : ℕ) → IsSome (list_at t.store v) → ⊥
+    no_list v some = none_some (sym (ap (λ s. list_at s v) store ∙ nothing v) ∙ (Rattle.ny_heap.proofs.CountLemmas.some_is (list_at t.store v) some).1)
+
+-- ---- units by the table
+
+module _ (B : Type 0) (t : Table) (table : IsTable t []) (fills peak : ℕ) where
+  pub counted_there : (s : Sound) (n : ℕ) → IsCounted {B = B} (state_of t fills peak) s n → IsThere t n
+  counted_there s n counted =
+      let x = unit_of_node B t fills peak n counted.unit counted.there in
+      let l = table.units n x.0 x.1 in
+      there_of t n [] table (is_some_of _ l.0 l.1)
+
+  pub held_there : (s : Sound) (n : ℕ) → Some n ≡ list_of s → IsHeldSound {B = B} (state_of t fills peak) s → IsThere t n
+  held_there s n is held = counted_there s n (subst (IsHeldAt {B = B} (state_of t fills peak) s) (sym is) held.1)
+
+  pub unit_is : (n : ℕ) (b : Bool) → IsThere t n → b ≡ is_open_in t n → open_unit {B = B} (state_of t fills peak) (Some n) ≡ cond b (Some n) None
+  unit_is n b u is =
+      let filled = filled_is t.store n u.list u.listed in
+      let opened : is_open_in t n ≡ nat_lt (filled_in t.store n) (blocks_of t.block u.unit.timing.len) =
+      ap (λ (o : Option ListState). option_map_or (λ l. nat_lt (length l.values) (blocks_of t.block l.len)) o false) u.listed
+      ∙ ap (λ k. nat_lt k (blocks_of t.block u.list.len)) (sym filled) ∙ ap (λ k. nat_lt (filled_in t.store n) (blocks_of t.block k)) u.len in
+      ap (λ (o : Option (Node B)). option_map_or (λ y. cond (is_open t.block y) (Some n) None) o None) (node_of_unit B t fills peak n u.unit u.there)
+      ∙ ap (λ p. cond p (Some n) None) (sym opened ∙ sym is)
+
+  pub open_sound : (s : Sound) (n : ℕ) (b : Bool) → Some n ≡ list_of s → IsHeldSound {B = B} (state_of t fills peak) s → b ≡ is_open_in t n → open_unit {B = B} (state_of t fills peak) (list_of s) ≡ cond b (Some n) None
+  open_sound s n b is held opened = ap (open_unit {B = B} (state_of t fills peak)) (sym is) ∙ unit_is n b (held_there s n is held) opened

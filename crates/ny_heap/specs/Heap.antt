@@ -2,7 +2,10 @@
 use Rattle.std.specs.Prelude.{ℕ, zero, suc, ◌+◌, ◌-◌, ◌*◌, ◌/◌, ◌==◌, ◌&&◌, min, if◌then◌else◌, Bool, List, [], ◌∷◌, Option, None, Some, sum_by, slice_index, slice_index_or, nat_lt, ℤ}
 use Rattle.std.specs.Option.{option_map_or, option_map}
 use Rattle.ny_num.specs.declared.timing.Timing.{Timing}
+use Rattle.ny_units.specs.Resamplings.{next_after}
+use Rattle.ny_filters.specs.Filtering as filters
 use Rattle.ny_heap.specs.declared.make.Make.{Make}
+use Rattle.ny_heap.specs.declared.make.Make.TheVariants.{Resample}
 use Rattle.ny_heap.specs.declared.sound.Sound.{Sound}
 
 -- ---- the state
@@ -29,16 +32,22 @@ pub data Kind : Type 0 where
   Mix : Kind
   Channel : Kind
 
+-- what a unit keeps of what it has passed: a resampling when its input is heard and the last two samples that it took of it, a
+-- filter what the filter keeps, and all others nothing
+pub data Memory : Type 0 where
+  Nothing : Memory
+  Neighbours : Timing → ℤ → ℤ → Memory
+  Filtered : filters.Memory → Memory
+
 -- a unit with its list, of which so many blocks are filled. An input without a reader is exhausted, or had no
--- sample. `memory` is what the unit keeps of the samples that it has passed, `last_stop` the stop of the part that it
--- was given last, `pending` how many parts were handed out and are still to be attached. `outside` has for each
+-- sample. `last_stop` is the stop of the part that it was given last, `pending` how many parts were handed out and are still to be attached. `outside` has for each
 -- filled block, and for the next one, how many sounds in callers' hands stand there
 pub record Node (B : Type 0) : Type 0 where
   pub kind : Kind
   pub timing : Timing
   pub filled : ℕ
   pub inputs : List (Option Reader)
-  pub memory : List ℤ
+  pub memory : Memory
   pub last_stop : ℕ
   pub waiting : List (Waiting B)
   pub pending : ℕ
@@ -69,11 +78,11 @@ input_at x i = slice_index_or x.inputs i None
 
 -- the list that a sound reads, where it has a sample
 abbrev pub list_of : Sound → Option ℕ
-list_of s = option_map (λ r. r.unit) s.reading
+list_of s = option_map (λ c. c.list) s.reader
 
 -- how many samples it has passed
 abbrev pub place_of : Sound → ℕ
-place_of s = option_map_or (λ r. r.place) s.reading 0
+place_of s = option_map_or (λ c. c.place) s.reader 0
 
 -- ---- blocks
 
@@ -94,10 +103,16 @@ open_unit h (Some n) = option_map_or (λ x. if is_open h.block x then Some n els
 abbrev pub computed_of : {B : Type 0} → ℕ → Node B → ℕ
 computed_of block x = min (x.filled * block) x.timing.len
 
+-- the index of the next sample that a unit takes of an input, once it has `done` samples: a resampling has taken both neighbours of
+-- the last one, all others have taken what is heard before the next one
+abbrev pub next_taken : Kind → Timing → Timing → ℕ → ℕ
+next_taken (Made Resample) t input done = next_after input t done
+next_taken _ t input done = t.start + done
+
 -- how many samples of an input a unit has taken after so many blocks
 unfoldable pub taken_after : ℕ → Kind → Timing → Timing → ℕ → ℕ
 taken_after block kind t input zero = 0
-taken_after block kind t input (suc j) = min (t.start + min (suc j * block) t.len - input.start) input.len
+taken_after block kind t input (suc j) = min (next_taken kind t input (min (suc j * block) t.len) - input.start) input.len
 
 -- ---- kept blocks
 

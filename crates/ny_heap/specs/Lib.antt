@@ -2,7 +2,9 @@ pub mod Heap
 pub mod Means
 pub mod Reach
 pub mod Steps
-pub mod Given
+pub mod Work
+pub mod Tasks
 pub mod Table
 pub mod View
-pub mod Samples
+pub mod Making
+pub mod Filling

@@ -1,17 +1,21 @@
 -- What the lists of a heap hold: parts of whole lists, of which no more than some blocks are there.
 use Rattle.std.specs.Prelude.{◌≡◌, ℕ, ◌+◌, ◌-◌, ◌*◌, ◌<◌, ◌≤◌, ◌==◌, if◌then◌else◌, List, [], ◌∷◌, ◌++◌, map, take, drop, Option, None, Some, slice_index_or, length, ℤ, pos}
 use Rattle.std.specs.List.{range_with_len}
-use Rattle.ny_num.specs.Numbers.{sample_add}
+use Rattle.ny_num.specs.Numbers.{sample_add, sample_abs}
 use Rattle.ny_num.specs.Sound as sounds
 use Rattle.ny_num.specs.Sound.{value_at}
 use Rattle.ny_num.specs.declared.timing.Timing.{Timing}
+use Rattle.ny_kernels.specs.Operations.{operation}
+use Rattle.ny_kernels.specs.declared.operation.Op.{Op}
 use Rattle.ny_units.specs.Playing.{leaf_value}
+use Rattle.ny_units.specs.Resamplings.{next_after}
+use Rattle.ny_units.specs.Neighbours.{known_at, between}
+use Rattle.ny_filters.specs.Filtering.{outputs_after}
+use Rattle.ny_filters.specs.declared.filter.Filter.{Filter as FilterOf}
 use Rattle.ny_heap.specs.declared.make.Make.{Make}
-use Rattle.ny_heap.specs.declared.make.Make.TheVariants.{Leaf, Pair}
-use Rattle.ny_heap.specs.declared.make.Op.{Op}
-use Rattle.ny_heap.specs.declared.make.Op.TheVariants.{Add}
+use Rattle.ny_heap.specs.declared.make.Make.TheVariants.{Leaf, Pair, Abs, Resample, Filter}
 use Rattle.ny_heap.specs.declared.sound.Sound.{Sound}
-use Rattle.ny_heap.specs.Heap.{Reader, Captured, Waiting, Kind, Made, Mix, Channel, Node, HeapState, node_at, block_at, list_of}
+use Rattle.ny_heap.specs.Heap.{Reader, Captured, Waiting, Kind, Made, Mix, Channel, Memory, Neighbours, Filtered, Node, HeapState, node_at, block_at, list_of}
 
 -- the samples of each list, also of its blocks that are given back or not yet filled. `owed` has for each mix the
 -- parts that it was promised: those that were handed out to be evaluated and are still to be attached
@@ -42,9 +46,6 @@ abbrev pub heard : Option sounds.Sound → ℕ → ℤ
 heard None m = pos 0
 heard (Some s) m = value_at s m
 
-abbrev pub op_value : Op → ℤ → ℤ → ℤ
-op_value Add a b = sample_add a b
-
 -- the first input at an index
 abbrev pub first_heard : List (Option sounds.Sound) → ℕ → ℤ
 first_heard [] m = pos 0
@@ -57,15 +58,35 @@ second_heard (s ∷ ss) m = first_heard ss m
 
 -- an operation on two inputs. A given sample stands in place of one
 abbrev pub pair_value : Op → Option ℤ → Option ℤ → List (Option sounds.Sound) → ℕ → ℤ
-pair_value op None None ss m = op_value op (first_heard ss m) (second_heard ss m)
-pair_value op (Some k) None ss m = op_value op k (first_heard ss m)
-pair_value op None (Some k) ss m = op_value op (first_heard ss m) k
-pair_value op (Some j) (Some k) ss m = op_value op j k
+pair_value op None None ss m = operation op (first_heard ss m) (second_heard ss m)
+pair_value op (Some k) None ss m = operation op k (first_heard ss m)
+pair_value op None (Some k) ss m = operation op (first_heard ss m) k
+pair_value op (Some j) (Some k) ss m = operation op j k
+
+-- the samples of the first input
+abbrev pub first_samples : List (Option sounds.Sound) → List ℤ
+first_samples [] = []
+first_samples (None ∷ ss) = []
+first_samples (Some s ∷ ss) = s.samples
+
+-- the value at an index of an input that is brought to the rate of `t`, by a unit that has given `done` samples: between the two
+-- neighbours in the input, of which it keeps what it has passed
+abbrev pub resampled_value : Timing → Memory → ℕ → (ℕ → ℤ) → ℕ → ℤ
+resampled_value t (Neighbours input before after) done value m = between input.rate t.rate (known_at (next_after input t done) before after value) m
+resampled_value t _ done value m = pos 0
+
+-- output k of a filter for these samples, after what it keeps
+abbrev pub filtered_value : FilterOf → Memory → List ℤ → ℕ → ℤ
+filtered_value f (Filtered memory) xs k = slice_index_or (outputs_after f memory xs) k (pos 0)
+filtered_value f _ xs k = pos 0
 
 -- a leaf's samples are counted from its start
-abbrev pub made_value : Make → Timing → List ℤ → ℕ → List (Option sounds.Sound) → ℕ → ℤ
+abbrev pub made_value : Make → Timing → Memory → ℕ → List (Option sounds.Sound) → ℕ → ℤ
 made_value (Leaf l) t memory from ss m = leaf_value l (m - t.start)
 made_value (Pair op a b) t memory from ss m = pair_value op a b ss m
+made_value Abs t memory from ss m = sample_abs (first_heard ss m)
+made_value Resample t memory from ss m = resampled_value t memory (from - t.start) (first_heard ss) m
+made_value (Filter f) t memory from ss m = filtered_value f memory (drop (from - t.start) (first_samples ss)) (m - from)
 
 -- the sum of all inputs at an index, from the left, clamped at each step
 abbrev pub sum_heard : ℤ → List (Option sounds.Sound) → ℕ → ℤ
@@ -73,7 +94,7 @@ sum_heard total [] m = total
 sum_heard total (s ∷ ss) m = sum_heard (sample_add total (heard s m)) ss m
 
 -- the value at index m, at or after `from`, where what the unit keeps is that of `from`
-abbrev pub unit_value : Kind → Timing → List ℤ → ℕ → List (Option sounds.Sound) → ℕ → ℤ
+abbrev pub unit_value : Kind → Timing → Memory → ℕ → List (Option sounds.Sound) → ℕ → ℤ
 unit_value (Made make) t memory from ss m = made_value make t memory from ss m
 unit_value Mix t memory from ss m = sum_heard (pos 0) ss m
 unit_value Channel t memory from ss m = first_heard ss m
@@ -135,6 +156,6 @@ at_or n a f v = if v == n then a else f v
 abbrev pub with_samples : Whole → ℕ → List ℤ → Whole
 with_samples w n xs = record w { samples = at_or n xs w.samples; owed = at_or n [] w.owed }
 
--- what a unit of this kind gives, from its start
-abbrev pub whole_list : Kind → Timing → List (Option sounds.Sound) → List ℤ
-whole_list kind t ss = map (unit_value kind t [] t.start ss) (range_with_len t.start t.len)
+-- what a unit of this kind gives, from its start, where it keeps this at first
+abbrev pub whole_list : Kind → Timing → Memory → List (Option sounds.Sound) → List ℤ
+whole_list kind t memory ss = map (unit_value kind t memory t.start ss) (range_with_len t.start t.len)

@@ -1,14 +1,19 @@
 -- What the calls of a heap do.
-use Rattle.std.specs.Prelude.{◌≡◌, ◌≢◌, ℕ, ◌+◌, ◌-◌, ◌*◌, ◌/◌, ◌<◌, ◌≤◌, ◌^◌, min, max, Bool, true, false, nat_lt, if◌then◌else◌, List, [], ◌∷◌, ◌++◌, map, All, Option, None, Some, is_none, count_by, slice_index, slice_set, length, ℤ}
+use Rattle.std.specs.Prelude.{◌≡◌, ◌≢◌, ℕ, ◌+◌, ◌-◌, ◌*◌, ◌/◌, ◌<◌, ◌≤◌, ◌^◌, min, max, Bool, true, false, nat_lt, if◌then◌else◌, List, [], ◌∷◌, ◌++◌, map, All, Option, None, Some, is_none, count_by, slice_index, slice_set, length, pos}
 use Rattle.std.specs.Option.{option_map, option_map_or}
 use Rattle.ny_num.specs.Sound as sounds
 use Rattle.ny_num.specs.Sound.{IsTiming, sum_timing}
+use Rattle.ny_num.specs.Pointwise.{product_timing}
+use Rattle.ny_num.specs.Resampling.{other_rate_timing}
+use Rattle.ny_kernels.specs.declared.operation.Op.{Op}
+use Rattle.ny_kernels.specs.declared.operation.Op.TheVariants.{Add, Sub, Mul, Max, Min}
 use Rattle.ny_num.specs.declared.timing.Timing.{Timing}
 use Rattle.ny_units.specs.Playing.{IsLeaf, Reaches}
+use Rattle.ny_filters.specs.Filtering.{IsFilter, silent}
 use Rattle.ny_heap.specs.declared.make.Make.{Make}
-use Rattle.ny_heap.specs.declared.make.Make.TheVariants.{Leaf, Pair}
+use Rattle.ny_heap.specs.declared.make.Make.TheVariants.{Leaf, Pair, Abs, Resample, Filter}
 use Rattle.ny_heap.specs.declared.sound.Sound.{Sound}
-use Rattle.ny_heap.specs.Heap.{Reader, Captured, Waiting, Kind, Mix, Channel, Node, HeapState, node_at, list_of, place_of, blocks_of, stands_in, computed_of, taken_after, live_of}
+use Rattle.ny_heap.specs.Heap.{Reader, Captured, Waiting, Kind, Made, Mix, Channel, Memory, Nothing, Neighbours, Filtered, Node, HeapState, node_at, list_of, place_of, blocks_of, stands_in, computed_of, taken_after, live_of}
 use Rattle.ny_heap.specs.Means.{Whole, Parts, Means, with_samples, whole_list, input_sound, parts_from}
 use Rattle.ny_heap.specs.Reach.{SameSize, IsTrimmed}
 
@@ -89,19 +94,41 @@ kind_of_mix false = Mix
 abbrev pub inputs_of : Make → ℕ
 inputs_of (Leaf l) = 0
 inputs_of (Pair op a b) = count_by is_none (a ∷ b ∷ [])
+inputs_of Abs = 1
+inputs_of Resample = 1
+inputs_of (Filter f) = 1
+
+-- when an operation on two sounds is heard: a product where both are, all others where one of them is
+abbrev pub both_timing : Op → Timing → Timing → Timing
+both_timing Add x y = sum_timing x y
+both_timing Sub x y = sum_timing x y
+both_timing Mul x y = product_timing x y
+both_timing Max x y = sum_timing x y
+both_timing Min x y = sum_timing x y
 
 -- when a made unit is heard, where its inputs are heard so. A leaf that has a sample is one, and has all of them
 abbrev pub IsHeardAs : Make → List Timing → Timing → Type 0
 IsHeardAs (Leaf l) ts t = 0 < t.len → IsLeaf l × Reaches l t.len
 IsHeardAs (Pair op a b) [] t = ⊥
 IsHeardAs (Pair op a b) (x ∷ []) t = t ≡ x
-IsHeardAs (Pair op a b) (x ∷ y ∷ ts) t = t ≡ sum_timing x y
+IsHeardAs (Pair op a b) (x ∷ y ∷ ts) t = t ≡ both_timing op x y
+IsHeardAs Abs [] t = ⊥
+IsHeardAs Abs (x ∷ ts) t = t ≡ x
+IsHeardAs Resample [] t = ⊥
+IsHeardAs Resample (x ∷ ts) t = t ≡ other_rate_timing t.rate x
+IsHeardAs (Filter f) [] t = ⊥
+IsHeardAs (Filter f) (x ∷ ts) t = (t ≡ x) × IsFilter f
 
--- what a unit can be made of: a sound for each input, all of its rate, and it is heard when they are
+-- the sounds that a unit is made of have its rate, but for those that are brought to it
+abbrev pub HaveItsRate : Make → List Sound → Timing → Type 0
+HaveItsRate Resample inputs t = Unit {0}
+HaveItsRate _ inputs t = All (λ s. s.timing.rate ≡ t.rate) inputs
+
+-- what a unit can be made of: a sound for each input, and it is heard when they are
 pub record IsMadeOf (make : Make) (inputs : List Sound) (t : Timing) : Type 0 where
   pub count : length inputs ≡ inputs_of make
   pub bounds : IsTiming t
-  pub rates : All (λ s. s.timing.rate ≡ t.rate) inputs
+  pub rates : HaveItsRate make inputs t
   pub heard : IsHeardAs make (map (λ s. s.timing) inputs) t
 
 -- what a mix can be made of: parts of its rate, each no earlier and no later than it. (So far one part, and none that
@@ -113,10 +140,20 @@ pub record IsMixOf (parts : List Sound) (t : Timing) : Type 0 where
   pub begins : All (λ s. t.start ≤ s.timing.start) parts
   pub ends : All (λ s. s.timing.start + s.timing.len ≤ t.start + t.len) parts
 
+-- what a made unit keeps before it has passed anything: zeros
+abbrev pub made_memory : Make → List Sound → Memory
+made_memory Resample (s ∷ ss) = Neighbours s.timing (pos 0) (pos 0)
+made_memory (Filter f) inputs = Filtered (silent f)
+made_memory _ inputs = Nothing
+
+abbrev pub first_memory : Kind → List Sound → Memory
+first_memory (Made make) inputs = made_memory make inputs
+first_memory _ inputs = Nothing
+
 -- a unit that has filled nothing, in one caller's hands
 abbrev pub new_node : {B : Type 0} → Kind → Timing → List Sound → List (Waiting B) → Node B
 new_node kind t inputs waiting =
-    record { kind = kind; timing = t; filled = 0; inputs = map reader_of inputs; memory = []; last_stop = last_stop_of 0 inputs; waiting = waiting; pending = 0; outside = 1 ∷ [] }
+    record { kind = kind; timing = t; filled = 0; inputs = map reader_of inputs; memory = first_memory kind inputs; last_stop = last_stop_of 0 inputs; waiting = waiting; pending = 0; outside = 1 ∷ [] }
 
 -- one unit more
 pub record AddsNode {B : Type 0} (old new : HeapState B) (n : ℕ) (x : Node B) : Type 0 where
@@ -149,7 +186,7 @@ made_inputs part w inputs waiting =
 -- what the new list holds, where the old ones hold what they should
 abbrev pub MakesMeaning : {B : Type 0} → HeapState B → HeapState B → Kind → Timing → List Sound → List (Waiting B) → Sound → Type 0
 MakesMeaning {B} old new kind t inputs waiting s =
-    (part : Parts B) (w : Whole) → Means part old w → Means part new (option_map_or (λ n. with_samples w n (whole_list kind t (made_inputs part w inputs waiting))) (list_of s) w)
+    (part : Parts B) (w : Whole) → Means part old w → Means part new (option_map_or (λ n. with_samples w n (whole_list kind t (first_memory kind inputs) (made_inputs part w inputs waiting))) (list_of s) w)
 
 -- ---- filling
 
@@ -162,7 +199,7 @@ moved block x done (Some r) =
     else None
 
 -- the unit with one block more. Once its last block is filled it reads nothing and waits for nothing
-abbrev pub filled_node : {B : Type 0} → ℕ → List ℤ → Node B → Node B
+abbrev pub filled_node : {B : Type 0} → ℕ → Memory → Node B → Node B
 filled_node block memory x = record x {
   filled = x.filled + 1;
   inputs = map (if nat_lt (x.filled + 1) (blocks_of block x.timing.len) then moved block x (x.filled + 1) else (λ r. None)) x.inputs;
@@ -177,7 +214,7 @@ pub record FillsUnit {B : Type 0} (old new : HeapState B) (u : ℕ) : Type 0 whe
   pub fills : new.fills ≡ min (old.fills + 1) (2 ^ 64 - 1)
   pub peak : new.peak ≡ max old.peak (live_of old + 1)
   pub unit : Node B
-  pub memory : List ℤ
+  pub memory : Memory
   pub was : node_at old u ≡ Some unit
   pub after : node_at new u ≡ Some (filled_node old.block memory unit)
   pub others : (v : ℕ) → v ≢ u → node_at new v ≡ node_at old v

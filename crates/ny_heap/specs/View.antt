@@ -1,78 +1,80 @@
 -- What a contract sees of the table. No public clause cites this module.
-use Rattle.std.specs.Prelude.{◌≡◌, ℕ, suc, ◌+◌, ◌-◌, ◌*◌, ◌^◌, ◌<◌, ◌≤◌, List, [], ◌∷◌, ◌++◌, map, take, length, replicate, Option, None, Some, slice_set, ℤ}
+use Rattle.std.specs.Prelude.{◌≡◌, ℕ, ◌+◌, ◌-◌, ◌^◌, ◌<◌, ◌≤◌, List, [], ◌∷◌, map, length, Option, None, Some, ℤ}
+use Rattle.std.specs.List.{range_with_len}
 use Rattle.std.specs.Option.{option_map, option_map_or}
-use Rattle.ny_pool.specs.declared.pool.BlockId.{BlockId}
-use Rattle.ny_pool.specs.Blocks.{Blocks, in_block}
+use Rattle.ny_num.specs.declared.timing.Timing.{Timing}
+use Rattle.ny_list.specs.Store.{StoreState, CursorState, list_at}
 use Rattle.ny_heap.specs.declared.table.Unit.{Unit as UnitData}
 use Rattle.ny_heap.specs.declared.table.Table.{Table}
-use Rattle.ny_heap.specs.declared.table.ReadBy.{ReadBy}
-use Rattle.ny_heap.specs.declared.table.ReadBy.TheVariants.{Outside, Input, Nobody}
-use Rattle.ny_heap.specs.Heap.{Reader, Node, HeapState, blocks_of, stands_in}
-use Rattle.ny_heap.specs.Steps.{reader_of, last_stop_of}
-use Rattle.ny_heap.specs.Table.{unit_at, input_of, kind_of, IsInStep, IsTable}
+use Rattle.ny_units.specs.Inputs.{IsReader}
+use Rattle.ny_heap.specs.Heap.{Node, HeapState, blocks_of, taken_after}
+use Rattle.ny_heap.specs.Work.{kind_of, source_at, cursor_at, memory_in}
+use Rattle.ny_heap.specs.Table.{unit_at, readers_of, mark_in, own_in, held_in, timing_at, IsTable, IsRead}
 
--- how many sounds outside stand in each of the first n blocks
-abbrev pub marks : ReadBy → ℕ → List ℕ
-marks (Outside j) n = slice_set (replicate n 0) j 1
-marks (Input u i) n = replicate n 0
-marks Nobody n = replicate n 0
+-- the stop of the last of these
+abbrev pub last_stop_in : ℕ → List Timing → ℕ
+last_stop_in stop [] = stop
+last_stop_in stop (t ∷ ts) = last_stop_in t.stop ts
 
-abbrev pub node_of : {B : Type 0} → UnitData → Node B
-node_of x = record {
+-- how many samples' blocks of list v are filled
+abbrev pub filled_in : StoreState → ℕ → ℕ
+filled_in s v = option_map_or (λ l. length l.values) (list_at s v) 0
+
+-- how many others than the units and these cursors stand in block j of list v: sounds in callers' hands
+abbrev pub outside_in : Table → List (Option CursorState) → ℕ → ℕ → ℕ
+outside_in t cs v j = mark_in t.store v j - (own_in t v j + held_in t cs v j)
+
+abbrev pub node_of : {B : Type 0} → Table → List (Option CursorState) → ℕ → UnitData → Node B
+node_of t cs v x = record {
   kind = kind_of x.work;
   timing = x.timing;
-  filled = x.filled;
-  inputs = map reader_of x.inputs.items;
-  memory = [];
-  last_stop = last_stop_of 0 x.inputs.items;
+  filled = filled_in t.store v;
+  inputs = readers_of x;
+  memory = memory_in x.work;
+  last_stop = last_stop_in 0 x.inputs.items;
   waiting = [];
   pending = 0;
-  outside = marks x.reader (x.filled + 1);
+  outside = map (outside_in t cs v) (range_with_len 0 (filled_in t.store v + 1));
 }
 
--- what these blocks hold, of which the first is block j of a list of this length
-abbrev pub contents_from : Blocks ℤ → ℕ → ℕ → ℕ → List BlockId → List (Option (List ℤ))
-contents_from pool block len j [] = []
-contents_from pool block len j (b ∷ bs) = option_map (take (len - j * block)) (in_block pool b.0) ∷ contents_from pool block len (suc j) bs
-
-abbrev pub contents_of : Table → UnitData → List (Option (List ℤ))
-contents_of t x = replicate x.gone None ++ contents_from t.pool t.block x.timing.len x.gone x.kept.items
-
-abbrev pub state_of : {B : Type 0} → Table → ℕ → ℕ → HeapState B
-state_of t fills peak = record {
-  nodes = map (option_map node_of) t.units;
-  blocks = map (λ o. option_map_or (contents_of t) o []) t.units;
-  pool = length t.pool.blocks;
+-- what a contract sees where these cursors are in hand
+abbrev pub state_with : {B : Type 0} → Table → List (Option CursorState) → ℕ → ℕ → HeapState B
+state_with t cs fills peak = record {
+  nodes = map (λ v. option_map (node_of t cs v) (unit_at t v)) (range_with_len 0 (length t.units.items));
+  blocks = map (λ o. option_map_or (λ l. l.values) o []) t.store.lists;
+  pool = length t.store.loose;
   block = t.block;
   fills = fills;
   peak = peak;
 }
 
--- somebody reads unit v, which is x, and stands in the first block that it keeps
-abbrev pub IsTightBy : Table → ℕ → UnitData → ReadBy → Type 0
-IsTightBy t v x (Outside j) = x.gone ≡ j
-IsTightBy t v x (Input u i) = (y : UnitData) × (r : Reader) × (unit_at t u ≡ Some y) × (input_of y i ≡ Some r) × (r.node ≡ v) × (x.gone ≡ stands_in t.block x.timing.len r.place)
-IsTightBy t v x Nobody = ⊥
-
-abbrev pub IsTight : Table → ℕ → UnitData → Type 0
-IsTight t v x = IsTightBy t v x x.reader
+abbrev pub state_of : {B : Type 0} → Table → ℕ → ℕ → HeapState B
+state_of t fills peak = state_with t [] fills peak
 
 -- each input has something left to read, and its unit a block left to fill
-abbrev pub IsClean : Table → UnitData → Type 0
-IsClean t x = (i : ℕ) (r : Reader) → input_of x i ≡ Some r → (r.place < r.timing.len) × (x.filled < blocks_of t.block x.timing.len)
+abbrev pub IsClean : Table → Type 0
+IsClean t = (v i : ℕ) (x : UnitData) (c : CursorState) → unit_at t v ≡ Some x → i < length x.inputs.items → cursor_at x.work i ≡ Some c → (c.place < c.visible) × (filled_in t.store v < blocks_of t.block x.timing.len)
 
--- between two calls
+-- each input stands at its unit's need
+abbrev pub IsAtNeed : Table → Type 0
+IsAtNeed t = (v i : ℕ) (x : UnitData) (c : CursorState) → unit_at t v ≡ Some x → i < length x.inputs.items → cursor_at x.work i ≡ Some c → c.place ≡ taken_after t.block (kind_of x.work) x.timing (timing_at x i) (filled_in t.store v)
+
+-- an input whose cursor was dropped has nothing more to give: its unit has taken all of it, or has filled its last block
+abbrev pub IsExhausted : Table → Type 0
+IsExhausted t = (v i : ℕ) (x : UnitData) → unit_at t v ≡ Some x → i < length x.inputs.items → IsReader (source_at x.work i) → cursor_at x.work i ≡ None → filled_in t.store v < blocks_of t.block x.timing.len → (timing_at x i).len ≤ taken_after t.block (kind_of x.work) x.timing (timing_at x i) (filled_in t.store v)
+
+-- between two calls: somebody reads each list
 pub record IsHeap (t : Table) : Type 0 where
-  pub table : IsTable t
-  pub tight : (v : ℕ) (x : UnitData) → unit_at t v ≡ Some x → IsTight t v x
-  pub clean : (v : ℕ) (x : UnitData) → unit_at t v ≡ Some x → IsClean t x
-  pub steps : (v : ℕ) (x : UnitData) → unit_at t v ≡ Some x → IsInStep t.block x
+  pub table : IsTable t []
+  pub read : IsRead t
+  pub clean : IsClean t
+  pub needs : IsAtNeed t
+  pub exhausted : IsExhausted t
 
 -- the fields of a heap between two calls
-pub record IsHeapInside (t : Table) (size fills peak : ℕ) (out other : List ℤ) : Type 0 where
+pub record IsHeapInside (t : Table) (size fills peak : ℕ) (out : List ℤ) : Type 0 where
   pub heap : IsHeap t
-  pub counted : size ≡ length t.pool.blocks
+  pub counted : size ≡ length t.store.loose
   pub reached : peak ≤ size
   pub few : fills < 2 ^ 64
   pub whole : length out ≡ t.block
-  pub second : length other ≡ t.block

@@ -6,13 +6,14 @@ ghost use Rattle.ny_heap.specs.Reach.{HeapLaws, IsTrimmed};
 ghost use Rattle.ny_heap.specs.Steps.{IsHeldSound, without_sound, without_sounds, AreHeld, IsMadeOf, IsMixOf, sounds_of, waiting_of, kind_of_mix, Makes, MakesMeaning, want_of, IsSettledUnit, Fills, Passes, run_of, computed_in, advanced};
 
 use crate::make::Make;
-use crate::samples::{copy_run, fill_block};
-use crate::sound::{Reading, Sound, begin, same_timing};
+use crate::sound::{Sound, begin, list_in, same_timing};
 use crate::table::{
-    Table, Task, drop_one, first_lacking, is_unfilled, make_unit, move_sound, stand_at,
+    Table, drop_reader, fill_block, first_lacking, is_unfilled, make_unit, read_next,
 };
+use crate::task::Task;
+use ny_list::Store;
 use ny_num::{Sample, Timing};
-use ny_pool::{Pool, SlotId, Slots};
+use ny_pool::SlotId;
 use ny_wave::Waves;
 use std::alloc::{AllocError, Global};
 use std::marker::{Model, PhantomData};
@@ -40,9 +41,8 @@ pub struct Heap<B> {
     fills: u64,
     // The greatest number of blocks taken at once.
     peak: u32,
-    // Where a fill computes its block, and a second input of it.
+    // Where a fill computes its block.
     out: Vec<Sample>,
-    other: Vec<Sample>,
     // What leaves with waves are computed from.
     waves: Waves,
     branches: PhantomData<B>,
@@ -57,12 +57,12 @@ impl<B> Model for Heap<B> {
 
     ghost view = { λ h. state_of h.table h.fills h.peak };
 
-    ghost invariant = { λ h. IsHeapInside h.table h.size h.fills h.peak h.out.items h.other.items };
+    ghost invariant = { λ h. IsHeapInside h.table h.size h.fills h.peak h.out.items };
 }
 
 impl<B> Heap<B> {
     /// A heap without units, over a pool of `pool` blocks of `block` samples each. It also makes the
-    /// buffers in which each fill is computed.
+    /// buffer in which each fill is computed.
     ///
     /// # Errors
     /// `AllocError` where memory is missing.
@@ -73,19 +73,17 @@ impl<B> Heap<B> {
         ensures opened { IfOk result (λ h. h ≡ record { nodes = []; blocks = []; pool = pool; block = block; fills = 0; peak = 0 }) }
     {
         let table = Table {
-            units: Slots::open(alloc)?,
-            pool: Pool::open(alloc, pool, block, Sample::ZERO)?,
+            store: Store::open(alloc, pool, block)?,
+            units: Vec::new(alloc),
             block,
         };
         let out = vec![in alloc; Sample::ZERO; block as usize]?;
-        let other = vec![in alloc; Sample::ZERO; block as usize]?;
         Ok(Heap {
             table,
             size: pool,
             fills: 0,
             peak: 0,
             out,
-            other,
             waves: Waves::all(),
             branches: PhantomData,
         })
@@ -112,14 +110,7 @@ impl<B> Heap<B> {
         ensures keeps { OnErr result (KeepsMeaning self.old self.new) }
     {
         let when = same_timing(&timing);
-        let made = make_unit(
-            &mut self.table,
-            alloc,
-            self.size,
-            Task::Made(make),
-            inputs,
-            timing,
-        )?;
+        let made = make_unit(&mut self.table, alloc, Task::Made(make), inputs, timing)?;
         Ok(begin(made, when))
     }
 
@@ -153,14 +144,7 @@ impl<B> Heap<B> {
     {
         waiting.destroy_empty();
         let when = same_timing(&timing);
-        let made = make_unit(
-            &mut self.table,
-            alloc,
-            self.size,
-            Task::Channel,
-            parts,
-            timing,
-        )?;
+        let made = make_unit(&mut self.table, alloc, Task::Channel, parts, timing)?;
         Ok(begin(made, when))
     }
 
@@ -169,7 +153,7 @@ impl<B> Heap<B> {
         ensures free { result ≡ free_of self.now }
         ensures laws { HeapLaws self.now }
     {
-        self.table.pool.free()
+        self.table.store.free()
     }
 
     /// How many blocks are taken: those that somebody has still to read.
@@ -178,7 +162,7 @@ impl<B> Heap<B> {
         ensures within { result ≤ self.now.pool }
         ensures laws { HeapLaws self.now }
     {
-        self.size - self.table.pool.free()
+        self.size - self.table.store.free()
     }
 
     /// How many fills succeeded, or 2^64 - 1 where that is greater.
@@ -195,8 +179,9 @@ impl<B> Heap<B> {
         ensures trimmed { IsTrimmed (without_sound self.old s) self.new }
         ensures keeps { KeepsMeaning self.old self.new }
     {
-        if let Some(reading) = s.reading {
-            drop_one(&mut self.table, reading.unit);
+        let Sound { reader, .. } = s;
+        if let Some(c) = reader {
+            drop_reader(&mut self.table, c);
         }
     }
 
@@ -206,11 +191,11 @@ impl<B> Heap<B> {
         requires held { IsHeldSound self.now s.now }
         ensures unit { option_map (λ u. u.0.0) result ≡ open_unit self.now (list_of s.now) }
     {
-        let reading = s.reading?;
-        if !is_unfilled(&self.table, reading.unit) {
+        let v = list_in(s)?;
+        if !is_unfilled(&self.table, v) {
             return None;
         }
-        Some(UnitId(SlotId(reading.unit)))
+        Some(UnitId(SlotId(v)))
     }
 
     /// The first input's unit that is not computed far enough for the next block of `u`; None exactly
@@ -250,17 +235,11 @@ impl<B> Heap<B> {
         ensures fills { OnOk result (Fills self.old self.new u.0.0) }
         ensures keeps { KeepsMeaning self.old self.new }
     {
-        let free = self.table.pool.free();
+        let free = self.table.store.free();
         if free == 0 {
             return Err(FillFault::PoolFull);
         }
-        fill_block(
-            &mut self.table,
-            &self.waves,
-            u.0.0,
-            self.out.as_mut_slice(),
-            self.other.as_mut_slice(),
-        );
+        fill_block(&mut self.table, &self.waves, u.0.0, self.out.as_mut_slice());
         self.fills = self.fills.saturating_add(1);
         self.peak = self.peak.max(self.size - free + 1);
         Ok(())
@@ -278,17 +257,13 @@ impl<B> Heap<B> {
         ensures keeps { KeepsMeaning self.old self.new }
     {
         let _peak = self.peak;
-        let Some(reading) = s.reading else {
-            return 0;
-        };
-        let count = copy_run(&self.table, reading.unit, reading.place, s.timing.len, out);
-        let place = reading.place + count as u32;
-        s.reading = Some(Reading {
-            unit: reading.unit,
-            place,
-        });
-        let to = stand_at(&self.table, reading.unit, place);
-        move_sound(&mut self.table, reading.unit, to);
-        count
+        match s.reader.take() {
+            None => 0,
+            Some(mut c) => {
+                let count = read_next(&mut self.table, &mut c, s.timing.len, out);
+                s.reader = Some(c);
+                count
+            }
+        }
     }
 }

@@ -7,11 +7,14 @@
 
 mod heap;
 mod make;
-mod samples;
 mod sound;
 mod table;
+mod task;
+mod work;
 
 pub use heap::{FillFault, Heap, UnitId};
-pub use make::{Make, Op};
+pub use make::Make;
+pub use ny_filters::Filter;
+pub use ny_kernels::Op;
 pub use ny_units::{Knot, Leaf};
 pub use sound::Sound;

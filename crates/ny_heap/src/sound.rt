@@ -1,14 +1,8 @@
 ghost use Rattle.std.specs.Prelude.{◌≡◌};
-ghost use Rattle.std.specs.Option.{option_map};
+ghost use Rattle.ny_heap.specs.Heap.{list_of};
 
+use ny_list::Cursor;
 use ny_num::Timing;
-
-/// Where a sound reads: a unit's list, and how many samples it has passed.
-#[derive(Clone, Copy, Debug, PartialEq, Eq)]
-pub(crate) struct Reading {
-    pub(crate) unit: u32,
-    pub(crate) place: u32,
-}
 
 /// A sound in somebody's hands, who reads its samples once, in order.
 ///
@@ -18,8 +12,8 @@ pub(crate) struct Reading {
 pub struct Sound {
     /// When it is heard. Its length is how many samples it shows.
     pub timing: Timing,
-    // None where it has no sample.
-    pub(crate) reading: Option<Reading>,
+    // Where it reads its unit's list. None where it has no sample.
+    pub(crate) reader: Option<Cursor>,
 }
 
 /// The same timing once more.
@@ -29,15 +23,16 @@ pub(crate) fn same_timing(timing: &Timing) -> Timing
     *timing
 }
 
-/// A sound at its beginning: of this list, or of none.
-pub(crate) fn begin(list: Option<u32>, timing: Timing) -> Sound
-    ensures { result ≡ record { timing = timing; reading = option_map (λ n. record { unit = n; place = 0 }) list } }
+/// A sound that reads there, or nowhere.
+pub(crate) fn begin(reader: Option<Cursor>, timing: Timing) -> Sound
+    ensures { result ≡ record { timing = timing; reader = reader } }
 {
-    Sound {
-        timing,
-        reading: match list {
-            None => None,
-            Some(unit) => Some(Reading { unit, place: 0 }),
-        },
-    }
+    Sound { timing, reader }
+}
+
+/// The list that a sound reads, where it has a sample.
+pub(crate) fn list_in(s: &Sound) -> Option<u32>
+    ensures { result ≡ list_of s.now }
+{
+    s.reader.as_ref().map(|c| c.list())
 }

@@ -1,205 +1,128 @@
-ghost use Rattle.std.specs.Prelude.{◌≡◌, ◌≢◌, ℕ, ◌+◌, ◌<◌, ◌≤◌, min, ◌^◌, OnOk, IfOk, OnErr, ◌&&◌, nat_lt, ◌∷◌, [], length, map, Some, None, IsSome, IsSomeAnd};
-ghost use Rattle.ny_pool.specs.Blocks.{IsTaken, in_block, free_of};
-ghost use Rattle.ny_pool.specs.Slots.{spare_of};
-ghost use Rattle.std.specs.VecDeque.{deque_capacity};
-ghost use Rattle.std.specs.Option.{ForSome};
-ghost use Rattle.ny_heap.specs.Heap.{blocks_of, stands_in, list_of};
-ghost use Rattle.ny_heap.specs.Steps.{reader_of};
-ghost use Rattle.ny_heap.specs.declared.sound.Sound.{Sound as SoundData};
-ghost use Rattle.ny_heap.specs.declared.table.Task.TheVariants.{Made as MadeTask};
-ghost use Rattle.ny_heap.specs.Given.{id_in, AreTaken, GivesAll};
-ghost use Rattle.ny_heap.specs.Table.{unit_at, kind_of, kind_of_task, HasGiven, IsTask, IsTable, IsUnread, Removes, AreLost, Drops, CanPass, Passed, gone_at, IsReady, Appends, stepped, reach_of, taken_by_reach, Forgets, IsNext, Settles, list_in, lacks_for, lacking, SetsReader, Moves, CanMove, Grows, Marks, IsBlank, Inserts, Adds, AreSpent, SetsInputs, IsUnitMade};
+ghost use Rattle.std.specs.Prelude.{◌≡◌, ℕ, ◌+◌, ◌*◌, ◌^◌, ◌<◌, ◌≤◌, ◌↔◌, min, IsTrue, List as ListOf, [], ◌∷◌, ◌++◌, map, take, drop, length, Some, None, IsSome, IfOk, OnOk, ℤ};
+ghost use Rattle.std.specs.Option.{ForSome, option_map};
+ghost use Rattle.ny_units.specs.Inputs.{IsReader};
+ghost use Rattle.ny_heap.specs.Work.{inputs_in, source_at, cursor_at, without_cursor_at, with_cursor_at};
+ghost use Rattle.ny_list.specs.Store.{list_at, cursors_of, free_of};
+ghost use Rattle.ny_list.specs.Laws.{StoreLaws};
+ghost use Rattle.ny_list.specs.Reading.{Shows};
+ghost use Rattle.ny_list.specs.Steps.{with_move};
+ghost use Rattle.ny_heap.specs.Heap.{blocks_of};
+ghost use Rattle.ny_heap.specs.Steps.{run_of};
+ghost use Rattle.ny_heap.specs.declared.table.Next.TheVariants.{Drop, Pass};
+ghost use Rattle.ny_heap.specs.Table.{unit_at, IsTable, IsRead, IsThere, Removes, Drops, computed_in, computed_next_in, is_open_in, lacks_in, lacking_from};
+ghost use Rattle.ny_heap.specs.Making.{More, Grows, HasRoom, Places, first_cursor, IsMade};
+ghost use Rattle.ny_heap.specs.Filling.{CanFill, Reworks, Computes, Appends, HasInput, IsNextOf, Settling, Settles, FillsBlock};
+ghost use Rattle.ny_heap.specs.Tasks.{IsTask, IsReady, kind_of_task, inputs_of_task};
 
-use crate::make::{Make, Op};
-use crate::sound::{Reading, Sound};
+use crate::sound::{Sound, same_timing};
+use crate::task::{Task, begin_work};
+use crate::work::Work;
+use ny_list::{Cursor, List, Store};
 use ny_num::{Sample, Timing};
-use ny_pool::{BlockId, Pool, SlotId, Slots};
-use ny_units::LeafUnit;
+use ny_wave::Waves;
 use std::alloc::{AllocError, Global};
-use std::collections::VecDeque;
 
-/// Who reads a unit's list.
-#[derive(Clone, Copy)]
-pub(crate) enum ReadBy {
-    /// A sound in a caller's hands, which stands in this block.
-    Outside(u32),
-    /// An input of a unit: the unit, and which input.
-    Input(u32, u32),
-    /// Nobody.
-    Nobody,
-}
-
-/// What a unit is to compute.
-#[derive(Drop)]
-pub(crate) enum Task {
-    Made(Make),
-    Channel,
-}
-
-/// What a unit computes. A leaf stands where its unit does.
-#[derive(Drop)]
-pub(crate) enum Work {
-    Leaf(LeafUnit),
-    Pair(Op, Option<Sample>, Option<Sample>),
-    Channel,
-}
-
-/// A unit with its list.
+/// A unit with the end of its list.
 #[derive(Drop)]
 pub(crate) struct Unit {
     pub(crate) work: Work,
     pub(crate) timing: Timing,
-    /// How many blocks are filled.
-    pub(crate) filled: u32,
-    /// The sounds that it reads. One that it has done with reads nothing.
-    pub(crate) inputs: Vec<Sound>,
-    pub(crate) reader: ReadBy,
-    /// How many blocks were given back, the first ones.
-    pub(crate) gone: u32,
-    /// The blocks that are kept, in order, with room for as many as can be.
-    pub(crate) kept: VecDeque<BlockId>,
+    /// When what it reads is heard.
+    pub(crate) inputs: Vec<Timing>,
+    pub(crate) list: List,
+}
+
+/// The units, each by the number of its list, and the lists.
+#[derive(Drop)]
+pub(crate) struct Table {
+    pub(crate) store: Store,
+    pub(crate) units: Vec<Option<Unit>>,
+    pub(crate) block: u32,
 }
 
 /// What is to be done about an input once its unit has one block more.
 pub(crate) enum Next {
     Stay,
-    /// To drop it, with its unit.
-    Drop(u32),
-    /// To give back the blocks of this unit before this one.
-    Pass(u32, u32),
+    /// To drop its cursor.
+    Drop,
+    /// To pass so many samples.
+    Pass(u32),
 }
 
-/// The units, and the blocks that hold what they computed.
-#[derive(Drop)]
-pub(crate) struct Table {
-    pub(crate) units: Slots<Unit>,
-    pub(crate) pool: Pool<Sample>,
-    pub(crate) block: u32,
-}
-
-// Gives back all of these blocks.
-fn give_all(pool: &mut Pool<Sample>, blocks: &VecDeque<BlockId>)
-    requires { AreTaken pool.old blocks.now.items }
-    ensures { GivesAll pool.old pool.new blocks.now.items }
+// A unit that is there.
+fn unit_of(table: &Table, v: u32) -> &Unit
+    requires { IsSome (unit_at table.now v) }
+    ensures { unit_at table.now v ≡ Some result.now }
 {
-    for i in 0..blocks.len() {
-        let b = blocks[i];
-        pool.give(b);
+    match &table.units[v as usize] {
+        Some(unit) => unit,
+        None => unreachable!(),
     }
 }
 
-// Removes a unit that nobody reads, and hands out the sounds that it reads.
-fn remove_unit(table: &mut Table, n: u32) -> Vec<Sound>
-    requires table { IsTable table.old }
-    requires there { IsSome (unit_at table.old n) }
-    requires unread { IsUnread table.old n }
-    ensures { Removes table.old table.new n result.items }
+// ---- removal
+
+// Takes a unit out that nobody reads, and closes its list. Answers what it computed, with the
+// cursors of what it read.
+fn remove_unit(table: &mut Table, v: u32) -> Work
+    requires there { IsThere table.old v }
+    requires unread { ForSome (list_at table.old.store v) (λ l. cursors_of l ≡ 0) }
+    ensures { Removes table.old table.new v result }
 {
-    let Unit { inputs, kept, .. } = table.units.remove(SlotId(n));
-    give_all(&mut table.pool, &kept);
-    inputs
+    let Unit { work, list, .. } = table.units[v as usize].take().unwrap();
+    table.store.close(list);
+    work
 }
 
-/// Removes the units of these sounds, and what only they read.
-pub(crate) fn drop_all(table: &mut Table, sounds: &[Sound])
-    requires table { IsTable table.old }
-    requires lost { AreLost table.old sounds.now }
-    ensures { Drops table.old table.new sounds.now (length sounds.now) }
+// Whether somebody reads a unit.
+fn is_read(table: &Table, v: u32) -> bool
+    requires { IsThere table.now v }
+    ensures { ForSome (list_at table.now.store v) (λ l. IsTrue result ↔ (0 < cursors_of l)) }
 {
-    for sound in sounds {
-        if let Some(reading) = &sound.reading {
-            let inputs = remove_unit(table, reading.unit);
-            drop_all(table, inputs.as_slice());
+    table.store.held(&unit_of(table, v).list)
+}
+
+/// Spends a reader. Where nobody reads its unit any more that is removed, and what only it read.
+pub(crate) fn drop_reader(table: &mut Table, c: Cursor)
+    requires { IsTable table.old (Some c ∷ []) }
+    ensures { Drops table.old table.new (Some c ∷ []) [] }
+{
+    let v = c.list();
+    table.store.drop_cursor(c);
+    if is_read(table, v) {
+        return;
+    }
+    let mut work = remove_unit(table, v);
+    let count = work.inputs();
+    for i in 0..count {
+        if let Some(input) = work.take_cursor(i) {
+            drop_reader(table, input);
         }
     }
 }
 
-// Gives back the first block that a unit keeps.
-fn give_first(table: &mut Table, v: u32)
-    requires table { IsTable table.old }
-    requires can { IsSomeAnd (unit_at table.old v) (λ x. CanPass table.old v (x.gone + 1)) }
-    ensures { ForSome (unit_at table.old v) (λ x. Passed table.old table.new v (x.gone + 1)) }
+// Spends a sound.
+fn drop_sound(table: &mut Table, sound: Sound)
+    requires { IsTable table.old (sound.reader ∷ []) }
+    ensures { Drops table.old table.new (sound.reader ∷ []) [] }
 {
-    let unit = table.units.get_mut(SlotId(v));
-    unit.gone += 1;
-    let b = unit.kept.pop_front().unwrap();
-    table.pool.give(b);
-}
-
-// How many blocks of a unit were given back.
-fn gone_of(table: &Table, v: u32) -> u32
-    requires { IsSome (unit_at table.now v) }
-    ensures { result ≡ gone_at table.now v }
-{
-    table.units.get(SlotId(v)).gone
-}
-
-/// Gives back the blocks of a unit before block `to`.
-pub(crate) fn pass(table: &mut Table, v: u32, to: u32)
-    requires table { IsTable table.old }
-    requires can { CanPass table.old v to }
-    ensures { Passed table.old table.new v to }
-{
-    while gone_of(table, v) < to {
-        give_first(table, v);
+    let Sound { reader, .. } = sound;
+    if let Some(c) = reader {
+        drop_reader(table, c);
     }
 }
 
-/// The index that a unit's samples reach with so many blocks.
-pub(crate) fn reach(block: u32, timing: &Timing, done: u32) -> u64
-    ensures { result ≡ reach_of block timing.now done }
+/// Spends these sounds, from the last one on.
+pub(crate) fn drop_sounds(table: &mut Table, mut sounds: Vec<Sound>)
+    requires { IsTable table.old (map (λ s. s.reader) sounds.items) }
+    ensures { Drops table.old table.new (map (λ s. s.reader) sounds.items) [] }
 {
-    let computed = (u64::from(done) * u64::from(block)).min(u64::from(timing.len));
-    u64::from(timing.start) + computed
-}
-
-/// How many samples of an input a unit has taken whose samples reach this index.
-pub(crate) fn taken_by(reach: u64, input: &Timing) -> u32
-    ensures { result ≡ taken_by_reach reach input.now }
-{
-    let taken = reach.saturating_sub(u64::from(input.start));
-    taken.min(u64::from(input.len)) as u32
-}
-
-// The sound stands where its unit has taken it.
-fn step_input(reach: u64, sound: &mut Sound)
-    ensures { sound.new ≡ stepped reach sound.old }
-{
-    if let Some(reading) = sound.reading {
-        let place = taken_by(reach, &sound.timing);
-        sound.reading = Some(Reading {
-            unit: reading.unit,
-            place,
-        });
+    while let Some(sound) = sounds.pop() {
+        drop_sound(table, sound);
     }
 }
 
-// Each of these sounds stands where its unit has taken it.
-fn step_inputs(reach: u64, inputs: &mut [Sound])
-    ensures { inputs.new ≡ map (stepped reach) inputs.old }
-{
-    for sound in inputs.iter_mut() {
-        step_input(reach, sound);
-    }
-}
-
-/// Adds a block with these samples to a unit's list, and moves its inputs to its next need.
-pub(crate) fn append(table: &mut Table, u: u32, samples: &[Sample])
-    requires table { IsTable table.old }
-    requires free { 0 < free_of table.old.pool }
-    requires ready { IsReady table.old u }
-    requires whole { length samples.now ≡ table.old.block }
-    ensures { ForSome (unit_at table.old u) (λ x. Appends table.old table.new u x.work samples.now) }
-{
-    let b = table.pool.take().unwrap();
-    table.pool.copy_from(b, samples);
-    let block = table.block;
-    let unit = table.units.get_mut(SlotId(u));
-    unit.kept.push_back_reserved(b);
-    unit.filled += 1;
-    let end = reach(block, &unit.timing, unit.filled);
-    step_inputs(end, unit.inputs.as_mut_slice());
-}
+// ---- blocks
 
 /// How many blocks a length has.
 pub(crate) fn blocks_in(block: u32, len: u32) -> u64
@@ -209,309 +132,354 @@ pub(crate) fn blocks_in(block: u32, len: u32) -> u64
     (u64::from(len) + (u64::from(block) - 1)) / u64::from(block)
 }
 
-// The block in which a reader of a list of this length stands.
-fn stand_in(block: u32, len: u32, place: u32) -> u64
-    requires { 0 < block }
-    ensures { result ≡ stands_in block len place }
+// How many samples of this length there are in so many blocks.
+fn samples_in(block: u32, len: u32, blocks: u64) -> u32
+    requires { blocks ≤ 2 ^ 32 }
+    ensures { result ≡ min (blocks * block) len }
 {
-    if place == len {
-        return blocks_in(block, len);
-    }
-    u64::from(place / block)
+    (blocks * u64::from(block)).min(u64::from(len)) as u32
 }
 
-/// Removes a unit that nobody reads, and what only it reads.
-pub(crate) fn drop_one(table: &mut Table, n: u32)
-    requires table { IsTable table.old }
-    requires there { IsSome (unit_at table.old n) }
-    requires unread { IsUnread table.old n }
-    ensures { (s : SoundData) → list_of s ≡ Some n → Drops table.old table.new (s ∷ []) 1 }
+// How many samples of a unit are computed.
+fn computed(table: &Table, v: u32) -> u32
+    requires { IsThere table.now v }
+    ensures { result ≡ computed_in table.now v }
 {
-    let inputs = remove_unit(table, n);
-    drop_all(table, inputs.as_slice());
+    let unit = unit_of(table, v);
+    let filled = u64::from(table.store.filled(&unit.list));
+    samples_in(table.block, unit.timing.len, filled)
 }
 
-// An input reads nothing any more.
-fn forget(table: &mut Table, u: u32, i: usize)
-    requires { IsSomeAnd (unit_at table.old u) (λ x. i < length x.inputs.items) }
-    ensures { Forgets table.old table.new u i }
+// How many samples of a unit are computed once its next block is.
+fn computed_next(table: &Table, v: u32) -> u32
+    requires { IsThere table.now v }
+    ensures { result ≡ computed_next_in table.now v }
 {
-    let unit = table.units.get_mut(SlotId(u));
-    unit.inputs[i].reading = None;
-}
-
-// Whether a unit has a use for what lies past this place of an input that shows so many samples.
-fn wants_more(block: u32, unit: &Unit, place: u32, visible: u32) -> bool
-    requires { 0 < block }
-    ensures { result ≡ (nat_lt unit.now.filled (blocks_of block unit.now.timing.len) && nat_lt place visible) }
-{
-    u64::from(unit.filled) < blocks_in(block, unit.timing.len) && place < visible
-}
-
-// What is to be done about an input, where its unit has one block more.
-fn next_of(table: &Table, u: u32, i: usize) -> Next
-    requires table { IsTable table.now }
-    requires there { IsSomeAnd (unit_at table.now u) (λ x. i < length x.inputs.items) }
-    ensures { ForSome (unit_at table.now u) (λ x. IsNext table.now x i result) }
-{
-    let unit = table.units.get(SlotId(u));
-    let input = &unit.inputs[i];
-    let Some(reading) = input.reading else {
-        return Next::Stay;
-    };
-    if !wants_more(table.block, unit, reading.place, input.timing.len) {
-        return Next::Drop(reading.unit);
-    }
-    let read = table.units.get(SlotId(reading.unit));
-    let to = stand_in(table.block, read.timing.len, reading.place);
-    Next::Pass(reading.unit, to as u32)
-}
-
-// Gives back what an input has passed. Where its unit has done with it, it is dropped.
-fn settle(table: &mut Table, u: u32, i: usize)
-    requires table { IsTable table.old }
-    requires there { IsSomeAnd (unit_at table.old u) (λ x. i < length x.inputs.items) }
-    ensures { Settles table.old table.new u i (i + 1) }
-{
-    match next_of(table, u, i) {
-        Next::Stay => {}
-        Next::Drop(n) => {
-            forget(table, u, i);
-            drop_one(table, n);
-        }
-        Next::Pass(n, to) => pass(table, n, to),
-    }
-}
-
-// How many inputs a unit has.
-fn inputs_of(table: &Table, u: u32) -> usize
-    requires { IsSome (unit_at table.now u) }
-    ensures { ForSome (unit_at table.now u) (λ x. result ≡ length x.inputs.items) }
-{
-    table.units.get(SlotId(u)).inputs.len()
-}
-
-/// Gives back what a unit's inputs have passed, and drops those with which it has done.
-pub(crate) fn settle_all(table: &mut Table, u: u32)
-    requires table { IsTable table.old }
-    requires there { IsSome (unit_at table.old u) }
-    ensures { ForSome (unit_at table.old u) (λ x. Settles table.old table.new u 0 (length x.inputs.items)) }
-{
-    let count = inputs_of(table, u);
-    for i in 0..count {
-        settle(table, u, i);
-    }
+    let unit = unit_of(table, v);
+    let filled = u64::from(table.store.filled(&unit.list));
+    samples_in(table.block, unit.timing.len, filled + 1)
 }
 
 /// Whether a block of a unit's list is not filled.
 pub(crate) fn is_unfilled(table: &Table, u: u32) -> bool
     requires positive { 0 < table.now.block }
-    requires there { IsSome (unit_at table.now u) }
-    ensures { ForSome (unit_at table.now u) (λ x. result ≡ nat_lt x.filled (blocks_of table.now.block x.timing.len)) }
+    requires there { IsThere table.now u }
+    ensures { result ≡ is_open_in table.now u }
 {
-    let unit = table.units.get(SlotId(u));
-    u64::from(unit.filled) < blocks_in(table.block, unit.timing.len)
+    let unit = unit_of(table, u);
+    u64::from(table.store.filled(&unit.list)) < blocks_in(table.block, unit.timing.len)
 }
 
-// Whether a unit whose samples are to reach this index wants more of this sound than is computed.
-fn lacks(table: &Table, reach: u64, sound: &Sound) -> bool
-    requires { ForSome (list_of sound.now) (λ n. IsSome (unit_at table.now n)) }
-    ensures { result ≡ lacks_for table.now reach (reader_of sound.now) }
+// The list that an input reads.
+fn work_list(unit: &Unit, i: u32) -> Option<u32>
+    requires { i < inputs_in unit.now.work }
+    ensures { result ≡ option_map (λ c. c.list) (cursor_at unit.now.work i) }
 {
-    let Some(reading) = sound.reading else {
-        return false;
-    };
-    let read = table.units.get(SlotId(reading.unit));
-    let computed = (u64::from(read.filled) * u64::from(table.block)).min(u64::from(
-        read.timing.len,
-    ));
-    computed < u64::from(taken_by(reach, &sound.timing))
+    unit.work.cursor(i).map(|c| c.list())
+}
+
+// The list of an input of a unit that is to have `done` samples, where it is not computed as far as
+// that asks.
+fn lacking(table: &Table, unit: &Unit, i: u32, done: u32) -> Option<u32>
+    requires inside { i < inputs_in unit.now.work }
+    requires there { ForSome (cursor_at unit.now.work i) (λ c. IsThere table.now c.list) }
+    ensures { result ≡ lacks_in table.now unit.now done (cursor_at unit.now.work i) i }
+{
+    let v = work_list(unit, i)?;
+    if computed(table, v) < unit.work.need(i, done) {
+        Some(v)
+    } else {
+        None
+    }
 }
 
 /// The unit of the first input that is not computed far enough for a unit's next block.
 pub(crate) fn first_lacking(table: &Table, u: u32) -> Option<u32>
-    requires table { IsTable table.now }
-    requires open { IsSomeAnd (unit_at table.now u) (λ x. x.filled < blocks_of table.now.block x.timing.len) }
-    ensures { ForSome (unit_at table.now u) (λ x. result ≡ lacking table.now (reach_of table.now.block x.timing (x.filled + 1)) (map reader_of x.inputs.items)) }
+    requires table { IsTable table.now [] }
+    requires there { IsThere table.now u }
+    ensures { ForSome (unit_at table.now u) (λ x. result ≡ lacking_from table.now x (computed_next_in table.now u) 0 (inputs_in x.work)) }
 {
-    let unit = table.units.get(SlotId(u));
-    let end = reach(table.block, &unit.timing, unit.filled + 1);
-    for sound in &unit.inputs {
-        if lacks(table, end, sound) {
-            return sound.reading.map(|r| r.unit);
+    let unit = unit_of(table, u);
+    let done = computed_next(table, u);
+    let count = unit.work.inputs();
+    for i in 0..count {
+        if let Some(v) = lacking(table, unit, i, done) {
+            return Some(v);
         }
     }
     None
 }
 
-// Says who reads a unit.
-pub(crate) fn set_reader(table: &mut Table, n: u32, by: ReadBy)
-    requires { IsSome (unit_at table.old n) }
-    ensures { SetsReader table.old table.new n by }
+// ---- one block more
+
+// Computes the samples of a unit's next block, in `out`. What keeps a place or samples moves on.
+fn compute(table: &mut Table, waves: &Waves, u: u32, out: &mut [Sample])
+    requires ready { CanFill table.old u }
+    requires whole { length out.old ≡ table.old.block }
+    ensures computes { Computes table.old table.new u out.new }
+    ensures len { length out.new ≡ length out.old }
 {
-    let unit = table.units.get_mut(SlotId(n));
-    unit.reader = by;
+    let from = computed(table, u);
+    let end = computed_next(table, u);
+    let reads = table.store.reads();
+    let unit = table.units[u as usize].as_mut().unwrap();
+    unit.work
+        .fill(&reads, waves, from, &mut out[..(end - from) as usize]);
 }
 
-/// The sound that reads a unit stands in block `to`. The blocks before it are given back.
-pub(crate) fn move_sound(table: &mut Table, n: u32, to: u32)
-    requires table { IsTable table.old }
-    requires can { CanMove table.old n to }
-    ensures { Moves table.old table.new n to }
+// Adds a block with these samples to a unit's list.
+fn append(table: &mut Table, u: u32, samples: &[Sample])
+    requires there { IsThere table.old u }
+    requires unfilled { IsTrue (is_open_in table.old u) }
+    requires block { table.old.store.block ≡ table.old.block }
+    requires whole { length samples.now ≡ table.old.block }
+    requires free { 0 < free_of table.old.store }
+    ensures { Appends table.old table.new u samples.now }
 {
-    set_reader(table, n, ReadBy::Outside(to));
-    pass(table, n, to);
+    let b = table.store.take().unwrap();
+    table.store.write(b, samples);
+    let unit = table.units[u as usize].as_mut().unwrap();
+    table.store.append_block(&mut unit.list, b);
 }
 
-/// The block in which a reader of a unit's list stands at this place.
-pub(crate) fn stand_at(table: &Table, n: u32, place: u32) -> u32
-    requires table { IsTable table.now }
-    requires there { IsSomeAnd (unit_at table.now n) (λ x. place ≤ x.timing.len) }
-    ensures { ForSome (unit_at table.now n) (λ x. result ≡ stands_in table.now.block x.timing.len place) }
+// What is to be done about an input.
+fn next_of(table: &Table, u: u32, i: u32) -> Next
+    requires settling { Settling table.now u i }
+    requires inside { HasInput table.now u i }
+    ensures { ForSome (unit_at table.now u) (λ x. IsNextOf table.now u i x result) }
 {
-    let len = table.units.get(SlotId(n)).timing.len;
-    stand_in(table.block, len, place) as u32
+    let work = &unit_of(table, u).work;
+    let Some(c) = work.cursor(i) else {
+        return Next::Stay;
+    };
+    let need = work.need(i, computed(table, u));
+    if !is_unfilled(table, u) || need >= c.visible() {
+        return Next::Drop;
+    }
+    Next::Pass(need - table.store.position(c))
 }
 
-// Room for one more unit, and for the numbers of its blocks.
-fn make_room(table: &mut Table, alloc: Global, blocks: u64) -> Result<VecDeque<BlockId>, AllocError>
-    requires { IsTable table.old }
-    ensures grows { OnOk result (Grows table.old table.new) }
-    ensures nothing { OnErr result (table.new ≡ table.old) }
-    ensures room { OnOk result (0 < spare_of table.new.units) }
-    ensures empty { IfOk result (λ q. (q.items ≡ []) × (deque_capacity q ≡ blocks)) }
+// Takes the cursor of an input.
+fn take_input(table: &mut Table, u: u32, i: u32) -> Option<Cursor>
+    requires inside { HasInput table.old u i }
+    ensures cursor { ForSome (unit_at table.old u) (λ x. result ≡ cursor_at x.work i) }
+    ensures taken { ForSome (unit_at table.old u) (λ x. Reworks table.old table.new u x (without_cursor_at x.work i)) }
 {
-    let kept = VecDeque::with_capacity(alloc, blocks as usize)?;
-    table.units.reserve(alloc, 1)?;
-    Ok(kept)
+    let unit = table.units[u as usize].as_mut().unwrap();
+    unit.work.take_cursor(i)
 }
 
-// Puts a unit into a vacant slot.
-fn insert_unit(table: &mut Table, unit: Unit) -> u32
-    requires { 0 < spare_of table.old.units }
-    ensures { Inserts table.old table.new result unit }
+// Puts the cursor of an input back.
+fn put_input(table: &mut Table, u: u32, i: u32, c: Cursor)
+    requires inside { HasInput table.old u i }
+    requires reader { ForSome (unit_at table.old u) (λ x. IsReader (source_at x.work i)) }
+    ensures { ForSome (unit_at table.old u) (λ x. Reworks table.old table.new u x (with_cursor_at x.work i c)) }
 {
-    table.units.insert(unit).0
+    let unit = table.units[u as usize].as_mut().unwrap();
+    unit.work.put_cursor(i, c);
 }
 
-// The units of these sounds are read by the inputs of unit `n`, in their order.
-fn mark_all(table: &mut Table, sounds: &[Sound], n: u32)
-    requires table { IsTable table.old }
-    requires lost { AreLost table.old sounds.now }
-    requires few { length sounds.now < 2 ^ 32 }
-    ensures { Marks table.old table.new sounds.now n (length sounds.now) }
+// An input has nothing more to read.
+fn forget(table: &mut Table, u: u32, i: u32)
+    requires settling { Settling table.old u i }
+    requires inside { HasInput table.old u i }
+    requires drops { ForSome (unit_at table.old u) (λ x. IsNextOf table.old u i x Drop) }
+    ensures settling { Settling table.new u (i + 1) }
+    ensures settles { Settles table.old table.new u i (i + 1) }
 {
-    for i in 0..sounds.len() {
-        if let Some(reading) = &sounds[i].reading {
-            set_reader(table, reading.unit, ReadBy::Input(n, i as u32));
-        }
+    let c = take_input(table, u, i).unwrap();
+    drop_reader(table, c);
+}
+
+// An input passes so many samples.
+fn pass(table: &mut Table, u: u32, i: u32, n: u32)
+    requires settling { Settling table.old u i }
+    requires inside { HasInput table.old u i }
+    requires passes { ForSome (unit_at table.old u) (λ x. IsNextOf table.old u i x (Pass n)) }
+    ensures settling { Settling table.new u (i + 1) }
+    ensures settles { Settles table.old table.new u i (i + 1) }
+{
+    let mut c = take_input(table, u, i).unwrap();
+    table.store.advance(&mut c, n);
+    put_input(table, u, i, c);
+}
+
+// Gives back what an input has passed. Where its unit has done with it, its cursor is dropped.
+fn settle(table: &mut Table, u: u32, i: u32)
+    requires settling { Settling table.old u i }
+    requires inside { HasInput table.old u i }
+    ensures settling { Settling table.new u (i + 1) }
+    ensures settles { Settles table.old table.new u i (i + 1) }
+{
+    match next_of(table, u, i) {
+        Next::Stay => {}
+        Next::Drop => forget(table, u, i),
+        Next::Pass(n) => pass(table, u, i, n),
     }
 }
 
-// A unit reads these sounds.
-fn set_inputs(table: &mut Table, n: u32, inputs: Vec<Sound>)
-    requires { IsSome (unit_at table.old n) }
-    ensures { SetsInputs table.old table.new n inputs.items }
+// How many inputs a unit has.
+fn inputs_of(table: &Table, u: u32) -> u32
+    requires { IsSome (unit_at table.now u) }
+    ensures { ForSome (unit_at table.now u) (λ x. result ≡ inputs_in x.work) }
 {
-    let unit = table.units.get_mut(SlotId(n));
-    unit.inputs = inputs;
+    unit_of(table, u).work.inputs()
 }
 
-/// Adds a unit that does this over these sounds, which it reads from now on. One sound outside reads
-/// it.
-pub(crate) fn add_unit(
-    table: &mut Table,
-    alloc: Global,
-    kept: VecDeque<BlockId>,
-    work: Work,
-    inputs: Vec<Sound>,
-    timing: Timing,
-) -> u32
-    requires table { IsTable table.old }
-    requires room { 0 < spare_of table.old.units }
-    requires some { 0 < timing.len }
-    requires short { timing.len < 2 ^ 32 }
-    requires early { timing.start < 2 ^ 32 }
-    requires few { length inputs.items < 2 ^ 32 }
-    requires spent { AreSpent table.old inputs.items }
-    requires empty { kept.items ≡ [] }
-    requires capacity { min (length table.old.pool.blocks) (blocks_of table.old.block timing.len) ≤ deque_capacity kept }
-    requires given { HasGiven work timing.len 0 }
-    ensures { Adds table.old table.new result (kind_of work) timing inputs.items }
+// Gives back what a unit's inputs have passed, and drops the cursors of those with which it has done.
+fn settle_all(table: &mut Table, u: u32)
+    requires settling { Settling table.old u 0 }
+    ensures settles { ForSome (unit_at table.old u) (λ x. Settles table.old table.new u 0 (inputs_in x.work)) }
+    ensures table { IsTable table.new [] }
+    ensures read { IsRead table.new }
 {
-    let n = insert_unit(
-        table,
-        Unit {
-            work,
-            timing,
-            filled: 0,
-            inputs: Vec::new(alloc),
-            reader: ReadBy::Outside(0),
-            gone: 0,
-            kept,
-        },
-    );
-    mark_all(table, inputs.as_slice(), n);
-    set_inputs(table, n, inputs);
-    n
-}
-
-// How what is made begins.
-fn begin_make(make: Make) -> Work
-    requires { (len : ℕ) × IsTask (MadeTask make) len }
-    ensures kind { kind_of result ≡ kind_of_task (MadeTask make) }
-    ensures given { (len : ℕ) → IsTask (MadeTask make) len → HasGiven result len 0 }
-{
-    match make {
-        Make::Leaf(leaf) => Work::Leaf(LeafUnit::of(leaf)),
-        Make::Pair(op, left, right) => Work::Pair(op, left, right),
+    for i in 0..inputs_of(table, u) {
+        settle(table, u, i);
     }
 }
 
-// How a task begins.
-fn begin_work(task: Task) -> Work
-    requires { (len : ℕ) × IsTask task len }
-    ensures kind { kind_of result ≡ kind_of_task task }
-    ensures given { (len : ℕ) → IsTask task len → HasGiven result len 0 }
+/// Computes and adds a unit's next block, and gives back what its inputs have passed.
+pub(crate) fn fill_block(table: &mut Table, waves: &Waves, u: u32, out: &mut [Sample])
+    requires ready { CanFill table.old u }
+    requires whole { length out.old ≡ table.old.block }
+    requires free { 0 < free_of table.old.store }
+    ensures fills { FillsBlock table.old table.new u out.new }
+    ensures len { length out.new ≡ length out.old }
 {
-    match task {
-        Task::Channel => Work::Channel,
-        Task::Made(make) => begin_make(make),
+    compute(table, waves, u, out);
+    append(table, u, out);
+    settle_all(table, u);
+}
+
+// ---- a new unit
+
+// When these sounds are heard.
+fn timings_of(alloc: Global, sounds: &[Sound]) -> Result<Vec<Timing>, AllocError>
+    ensures { IfOk result (λ v. v.items ≡ map (λ s. s.timing) sounds.now) }
+{
+    sounds
+        .iter()
+        .map(|sound| same_timing(&sound.timing))
+        .collect(alloc)
+}
+
+// At least so many places for units.
+fn grow(units: &mut Vec<Option<Unit>>, places: usize) -> Result<(), AllocError>
+    ensures more { More units.old.items units.new.items }
+    ensures places { OnOk result (places ≤ length units.new.items) }
+{
+    while units.len() < places {
+        units.push(None)?;
     }
+    Ok(())
+}
+
+// Room for one more unit.
+fn make_room(table: &mut Table, alloc: Global) -> Result<(), AllocError>
+    requires { StoreLaws table.old.store }
+    ensures grows { Grows table.old table.new }
+    ensures room { OnOk result (HasRoom table.new) }
+{
+    table.store.reserve_list(alloc)?;
+    let places = table.store.numbers() as usize;
+    grow(&mut table.units, places)
+}
+
+// Room for one more unit over these sounds. Answers when they are heard.
+fn prepare(table: &mut Table, alloc: Global, sounds: &[Sound]) -> Result<Vec<Timing>, AllocError>
+    requires { StoreLaws table.old.store }
+    ensures grows { Grows table.old table.new }
+    ensures room { OnOk result (HasRoom table.new) }
+    ensures timings { IfOk result (λ v. v.items ≡ map (λ s. s.timing) sounds.now) }
+{
+    let timings = timings_of(alloc, sounds)?;
+    make_room(table, alloc)?;
+    Ok(timings)
+}
+
+// Adds a unit that does this work. Answers a cursor at its beginning.
+fn add_unit(table: &mut Table, inputs: Vec<Timing>, work: Work, timing: Timing) -> Cursor
+    requires { HasRoom table.old }
+    ensures places { Places table.old table.new result.list work timing inputs.items }
+    ensures cursor { result ≡ first_cursor result.list timing.len }
+{
+    let (list, cursor) = table.store.new_list(timing.len, 0);
+    let n = list.number();
+    table.units[n as usize] = Some(Unit {
+        work,
+        timing,
+        inputs,
+        list,
+    });
+    cursor
 }
 
 /// Adds a unit for this task over these sounds, where it has a sample. Where it has none there is
-/// no unit, and the sounds are dropped, as they are where memory is missing.
+/// no unit, and the sounds are dropped, as they are where memory is missing. Answers a cursor at its
+/// beginning.
 pub(crate) fn make_unit(
     table: &mut Table,
     alloc: Global,
-    size: u32,
     task: Task,
-    inputs: Vec<Sound>,
+    sounds: Vec<Sound>,
     timing: Timing,
-) -> Result<Option<u32>, AllocError>
-    requires table { IsTable table.old }
-    requires size { size ≡ length table.old.pool.blocks }
-    requires short { timing.len < 2 ^ 32 }
-    requires early { timing.start < 2 ^ 32 }
-    requires few { length inputs.items < 2 ^ 32 }
-    requires spent { AreSpent table.old inputs.items }
+) -> Result<Option<Cursor>, AllocError>
+    requires table { IsTable table.old (map (λ s. s.reader) sounds.items) }
+    requires early { timing.start + timing.len < 2 ^ 32 }
+    requires count { length sounds.items ≡ inputs_of_task task }
     requires task { 0 < timing.len → IsTask task timing.len }
-    ensures { IsUnitMade table.old table.new (kind_of_task task) timing inputs.items result }
+    requires ready { 0 < timing.len → IsReady task sounds.items timing }
+    ensures { IsMade table.old table.new (kind_of_task task) timing sounds.items result }
 {
     if timing.len == 0 {
-        drop_all(table, inputs.as_slice());
+        drop_sounds(table, sounds);
         return Ok(None);
     }
-    let blocks = blocks_in(table.block, timing.len).min(u64::from(size));
-    match make_room(table, alloc, blocks) {
+    match prepare(table, alloc, sounds.as_slice()) {
         Err(e) => {
-            drop_all(table, inputs.as_slice());
+            drop_sounds(table, sounds);
             Err(e)
         }
-        Ok(kept) => {
-            let work = begin_work(task);
-            Ok(Some(add_unit(table, alloc, kept, work, inputs, timing)))
-        }
+        Ok(inputs) => match begin_work(alloc, task, sounds, &timing) {
+            Ok(work) => Ok(Some(add_unit(table, inputs, work, timing))),
+            Err(cursor) => {
+                drop_reader(table, cursor);
+                Err(AllocError)
+            }
+        },
     }
+}
+
+// ---- reading
+
+// Copies samples to the front of `out`, as many as there is room for. Answers how many.
+fn copy_front(run: &[Sample], out: &mut [Sample]) -> usize
+    ensures count { result ≡ min (length run.now) (length out.old) }
+    ensures copied { out.new ≡ take result run.now ++ drop result out.old }
+{
+    let count = run.len().min(out.len());
+    out[..count].copy_from_slice(&run[..count]);
+    count
+}
+
+/// Copies the next samples of a list, of the first `visible`, to the front of `out`, and passes
+/// them: no more than there is room for, to the end of the block. Answers how many.
+pub(crate) fn read_next(
+    table: &mut Table,
+    c: &mut Cursor,
+    visible: u32,
+    out: &mut [Sample],
+) -> usize
+    requires table { IsTable table.old (Some c.old ∷ []) }
+    requires computed { c.old.place ≤ computed_in table.old c.old.list }
+    ensures count { result ≡ run_of table.old.block (computed_in table.old c.old.list) visible c.old.place (length out.old) }
+    ensures passed { c.new ≡ record c.old { place = c.old.place + result; visible = visible } }
+    ensures moved { table.new ≡ record table.old { store = with_move table.old.store c.old (c.old.place + result) } }
+    ensures laws { StoreLaws table.new.store }
+    ensures samples { (xs : ListOf ℤ) → Shows table.old.store c.old.list xs → out.new ≡ take result (drop c.old.place (take visible xs)) ++ drop result out.old }
+{
+    c.see(visible);
+    let count = copy_front(table.store.read_run(c), out);
+    table.store.advance(c, count as u32);
+    count
 }

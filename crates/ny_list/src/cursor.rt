@@ -47,7 +47,30 @@ impl Model for Cursor {
     ghost view = { λ c. record { list = c.list.0; place = c.place; visible = c.visible; tag = c.tag } };
 }
 
+impl List {
+    /// Its number in the store.
+    pub fn number(&self) -> u32
+        ensures { result ≡ self.now }
+    {
+        self.slot.0
+    }
+}
+
 impl Cursor {
+    /// The number of its list in the store.
+    pub fn list(&self) -> u32
+        ensures { result ≡ self.now.list }
+    {
+        self.list.0
+    }
+
+    /// It sees so many samples of its list from then on.
+    pub fn see(&mut self, visible: u32)
+        ensures { self.new ≡ record self.old { visible = visible } }
+    {
+        self.visible = visible;
+    }
+
     /// How many samples of its list it sees, in samples.
     pub fn visible(&self) -> u32
         ensures { result ≡ self.now.visible }

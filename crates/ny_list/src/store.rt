@@ -71,6 +71,13 @@ impl Store {
         self.table.lists.reserve(alloc, 1)
     }
 
+    /// How many numbers lists have: each list's is below this one.
+    pub fn numbers(&self) -> u32
+        ensures { result ≡ length self.now.lists }
+    {
+        self.table.lists.slots()
+    }
+
     /// A new list that is to have `len` samples, and a cursor at its beginning, which sees all of them. The tag is the
     /// caller's, and each cursor of the list tells it.
     pub fn new_list(&mut self, len: u32, tag: u32) -> (List, Cursor)

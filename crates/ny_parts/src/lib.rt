@@ -13,8 +13,6 @@ mod kernels;
 #[cfg(test)]
 mod leaves;
 #[cfg(test)]
-mod lists;
-#[cfg(test)]
 mod names;
 #[cfg(test)]
 mod numbers;

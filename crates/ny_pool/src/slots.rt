@@ -59,6 +59,13 @@ impl<T> Slots<T> {
         self.vacant.len() as u32
     }
 
+    /// How many slots there are: each number is below this one.
+    pub fn slots(&self) -> u32
+        ensures { result ≡ length self.now }
+    {
+        self.slots.len() as u32
+    }
+
     /// Adds vacant slots until `k` values can be inserted; where there are as
     /// many already, nothing is done. The memory comes from the allocator that
     /// `open` was given: the argument says that this call may take some.

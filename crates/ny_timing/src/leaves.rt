@@ -59,7 +59,7 @@ fn later(a: Fix, b: Fix) -> Fix
 
 /// The local time at which an envelope of these numbers, times and levels in turn, ends.
 #[tactic(auto, using(crate::proofs::EnvelopeEnds::by_numbers), unfolding(ny_num::specs::Numbers::sat))]
-pub(crate) fn envelope_end(numbers: &[Fix]) -> Fix
+pub fn envelope_end(numbers: &[Fix]) -> Fix
     ensures { result ≡ envelope_end numbers.now }
 {
     let mut time = Fix::of(0);

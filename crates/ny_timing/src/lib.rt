@@ -11,7 +11,7 @@ mod names;
 mod rules;
 
 pub use entry::{channel_timings, timing};
-pub use leaves::{plain_timing, rest_timing, sustained_timing};
+pub use leaves::{envelope_end, plain_timing, rest_timing, sustained_timing};
 pub use rules::{
     channel_timing, cued_timing, leaf_timing, mix_timing, placed_timing, product_timing,
     resampled_timing, spanning, sum_timing,

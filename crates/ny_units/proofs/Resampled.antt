@@ -19,7 +19,9 @@ use Rattle.ny_units.specs.declared.course.Course.{Course}
 use Rattle.ny_units.specs.declared.course.Position.{Position}
 use Rattle.ny_units.specs.declared.course.Window.{Window}
 use Rattle.ny_units.specs.Courses.{on_way, IsCourse, IsPosition, IsWindow, Continues, IsStretch, place_at, course_value}
-use Rattle.ny_units.specs.Resamplings.{two_before, heard_sound, index_before, next_after, BeginsLater, CanTake}
+use Rattle.ny_units.specs.Inputs.{heard_at}
+use Rattle.ny_units.specs.Neighbours.{between}
+use Rattle.ny_units.specs.Resamplings.{Resampling, two_before, known, heard_sound, index_before, next_after, BeginsLater, CanTake}
 use Rattle.ny_units.proofs.Pieces.{in_run, past_end, from_start, before_start}
 use Rattle.ny_units.proofs.PartWritten.{places_joined}
 use Rattle.ny_num.proofs.PartAdded.{part_added, drop_again}
@@ -40,8 +42,9 @@ pub record RunsSoFar (c : Course) (s : StoreState) (reader : Option CursorState)
   pub forward : window.next ≤ at.place + 2
   pub empty : length start ≡ 0 → window.next ≡ first.next
   pub last : done ≡ length start → 0 < length start → window.next ≡ place_at c (m + length start - 1) + 2
-  pub samples : (xs : List ℤ) → ForSome reader (λ c. Shows s c.list xs) → IsWindow (two_before t xs) first → out ≡ map (course_value c (two_before t xs)) (range_with_len m done) ++ drop done start
-  pub values : (xs : List ℤ) → ForSome reader (λ c. Shows s c.list xs) → IsWindow (two_before t xs) first → IsWindow (two_before t xs) window
+  pub samples : (xs : List ℤ) → ForSome reader (λ c. Shows s c.list xs) → (g : ℕ → ℤ) → IsWindow g first → ((p : ℕ) → first.next + 2 ≤ p → g p ≡ two_before t xs p)
+      → out ≡ map (course_value c g) (range_with_len m done) ++ drop done start
+  pub values : (xs : List ℤ) → ForSome reader (λ c. Shows s c.list xs) → (g : ℕ → ℤ) → IsWindow g first → ((p : ℕ) → first.next + 2 ≤ p → g p ≡ two_before t xs p) → IsWindow g window
 
 -- what is read at a place of the list
 pub ahead_values : (t : Timing) (next place : ℕ) (xs run : List ℤ) (k : ℕ) → next ≡ t.start + place → length run ≤ t.len - place → run ≡ take (length run) (drop place xs)
@@ -109,11 +112,10 @@ module _ (c : Course) (s : StoreState) (reader : Option CursorState) (t : Timing
             let full : r.written ≡ length start - done = omega (arith, all, more) in
             let index : at.index + (length start - done) - 1 ≡ m + length start - 1 = omega (arith, so_far.index, more) in
             stretch.last full (omega (arith, more)) ∙ ap (λ i. place_at c i + 2) index;
-        samples = λ xs shows is.
-            let g = two_before t xs in
-            let continues : Continues g window ahead = record { window = so_far.values xs shows is; rest = values xs shows } in
+        samples = λ xs shows g is past.
+            let continues = goes_on xs shows g is past in
             let f = course_value c g in
-            let before : out ≡ map f (range_with_len m done) ++ drop done start = so_far.samples xs shows is in
+            let before : out ≡ map f (range_with_len m done) ++ drop done start = so_far.samples xs shows g is past in
             let begun : length (map f (range_with_len m done)) ≡ done = length-map-range_with_len f m done in
             let rest : drop done out ≡ drop done start = ap (drop done) before ∙ ap (λ n. drop n (map f (range_with_len m done) ++ drop done start)) (sym begun) ∙ drop-append_seam (map f (range_with_len m done)) (drop done start) in
             part_added done (length start) start out (map f (range_with_len m done)) part (omega (arith, more)) (omega arith) long some before
@@ -124,8 +126,25 @@ module _ (c : Course) (s : StoreState) (reader : Option CursorState) (t : Timing
             ∙ ap (λ ys. ys ++ drop r.written (drop done out)) (places_joined f m done r.written)
             ∙ ap (λ ys. map f (range_with_len m (done + r.written)) ++ drop r.written ys) rest
             ∙ ap (λ ys. map f (range_with_len m (done + r.written)) ++ ys) (drop_again done r.written start);
-        values = λ xs shows is. kept (two_before t xs) (record { window = so_far.values xs shows is; rest = values xs shows });
+        values = λ xs shows g is past. kept g (goes_on xs shows g is past);
       }
+    where
+      goes_on : (xs : List ℤ) → ForSome reader (λ c. Shows s c.list xs) → (g : ℕ → ℤ) → IsWindow g first → ((p : ℕ) → first.next + 2 ≤ p → g p ≡ two_before t xs p) → Continues g window ahead
+      goes_on xs shows g is past = record {
+        window = so_far.values xs shows g is past;
+        rest = λ k h. values xs shows k h ∙ sym (past (window.next + 2 + k) (omega (arith, so_far.later)));
+      }
+
+  -- all are written
+  pub all_written : (done : ℕ) (at : Position) (window : Window) (start out xs : List ℤ) (g : ℕ → ℤ) → length start ≤ done → RunsSoFar c s reader t first m done at window start out
+      → ForSome reader (λ c. Shows s c.list xs) → IsWindow g first → ((p : ℕ) → first.next + 2 ≤ p → g p ≡ two_before t xs p) → out ≡ map (course_value c g) (range_with_len m (length start))
+  all_written done at window start out xs g all so_far shows is past =
+      let f = course_value c g in
+      let end : done ≡ length start = omega (arith, all, so_far.room) in
+      so_far.samples xs shows g is past
+      ∙ ap (λ ys. map f (range_with_len m done) ++ ys) (drop_all done start all)
+      ∙ append-nil (map f (range_with_len m done))
+      ∙ ap (λ n. map f (range_with_len m n)) end
 
   -- each stretch writes an output or passes a sample
   pub stretch_on : (done : ℕ) (at : Position) (window : Window) (r : Stretch) (ahead len : ℕ) → done < len → at.index ≡ m + done → t.start ≤ window.next
@@ -152,6 +171,19 @@ module _ (c : Course) (s : StoreState) (reader : Option CursorState) (t : Timing
 
 -- ---- the unit
 
+-- two places on stands what the input has there
+two_on : (from : Timing) (xs : List ℤ) (q : ℕ) → two_before from xs (q + 2) ≡ heard_at from.start (take from.len xs) q
+two_on from xs q = elim (cases_lt q from.start) [
+  | inl early ↦ before_start (from.start + 2) (q + 2) (take from.len xs) (omega (arith, early)) ∙ sym (before_start from.start q (take from.len xs) early)
+  | inr later ↦
+      let place : q + 2 - (from.start + 2) ≡ q - from.start = omega (arith, later) in
+      from_start (from.start + 2) (q + 2) (take from.len xs) (omega (arith, later)) ∙ ap (λ p. get_or (take from.len xs) p (pos 0)) place ∙ sym (from_start from.start q (take from.len xs) later)
+]
+
+same_heard : (from : Timing) (xs : List ℤ) (q : ℕ) → two_before from xs (q + 2) ≡ value_at (heard_sound from xs) q
+unfolding value_at
+same_heard from xs q = two_on from xs q
+
 module _ (c : Course) (from to : Timing) (grid : c.grid ≡ grid_of from.rate) (step : c.step ≡ grid_of to.rate) where
   same_place : (m : ℕ) → place_at c m ≡ index_before from to m
   same_place m = ap (λ g. m * c.step / g) grid ∙ ap (λ n. m * n / grid_of from.rate) step
@@ -174,34 +206,82 @@ module _ (c : Course) (from to : Timing) (grid : c.grid ≡ grid_of from.rate) (
         ∙ next_is (given + len) (m + len - 1) (omega (arith, ne)) (omega (arith, at, ne))
   ]
 
-  same_heard : (xs : List ℤ) (q : ℕ) → two_before from xs (q + 2) ≡ value_at (heard_sound from xs) q
-  unfolding value_at
-  same_heard xs q = elim (cases_lt q from.start) [
-    | inl early ↦ before_start (from.start + 2) (q + 2) (take from.len xs) (omega (arith, early)) ∙ sym (before_start from.start q (take from.len xs) early)
-    | inr later ↦
-        let place : q + 2 - (from.start + 2) ≡ q - from.start = omega (arith, later) in
-        from_start (from.start + 2) (q + 2) (take from.len xs) (omega (arith, later)) ∙ ap (λ p. get_or (take from.len xs) p (pos 0)) place ∙ sym (from_start from.start q (take from.len xs) later)
-  ]
+  -- once they are, where the window stands
+  pub next_filled : (w : Window) (given begin len long m next : ℕ) → begin ≡ given → long ≡ len → m ≡ to.start + begin → next ≡ next_after from to given
+      → w.next ≡ (if len == 0 then next else place_at c (m + len - 1) + 2) → w.next ≡ next_after from to (begin + long)
+  next_filled w given begin len long m next begun same at is end =
+      let all : given + len ≡ begin + long = omega (arith, begun, same) in
+      end ∙ next_given given len m next (omega (arith, at, begun)) is ∙ ap (next_after from to) all
 
-  -- an output is the interpolated value
-  pub output_is : (xs : List ℤ) (m : ℕ) → course_value c (two_before from xs) m ≡ interpolated to.rate (heard_sound from xs) m
-  unfolding interpolated
-  output_is xs m =
-      let g = two_before from xs in
-      let s = heard_sound from xs in
+  -- an output lies between its neighbours
+  between_is : (g f : ℕ → ℤ) (m : ℕ) → ((q : ℕ) → g (q + 2) ≡ f q) → course_value c g m ≡ between from.rate to.rate f m
+  between_is g f m same =
       let q : ℕ = index_before from to m in
       let part : m * c.step % c.grid ≡ m * grid_of to.rate % grid_of from.rate = ap (λ n. m * n % c.grid) step ∙ ap (λ n. m * grid_of to.rate % n) grid in
       let place = same_place m in
       let after : place_at c m + 3 ≡ q + 1 + 2 = omega (arith, place) in
       ap (λ p. on_way (g (p + 2)) (g (place_at c m + 3)) (m * c.step % c.grid) c.grid) place
       ∙ ap (λ p. on_way (g (q + 2)) (g p) (m * c.step % c.grid) c.grid) after
-      ∙ ap (λ x. on_way x (g (q + 1 + 2)) (m * c.step % c.grid) c.grid) (same_heard xs q)
-      ∙ ap (λ x. on_way (value_at s q) x (m * c.step % c.grid) c.grid) (same_heard xs (q + 1))
-      ∙ ap (λ n. on_way (value_at s q) (value_at s (q + 1)) n c.grid) part
-      ∙ ap (λ n. on_way (value_at s q) (value_at s (q + 1)) (m * grid_of to.rate % grid_of from.rate) n) grid
+      ∙ ap (λ x. on_way x (g (q + 1 + 2)) (m * c.step % c.grid) c.grid) (same q)
+      ∙ ap (λ x. on_way (f q) x (m * c.step % c.grid) c.grid) (same (q + 1))
+      ∙ ap (λ n. on_way (f q) (f (q + 1)) n c.grid) part
+      ∙ ap (λ n. on_way (f q) (f (q + 1)) (m * grid_of to.rate % grid_of from.rate) n) grid
 
+  -- so are all of a slice
+  pub all_between : (g f : ℕ → ℤ) (out : List ℤ) (m first len : ℕ) → m ≡ first → ((q : ℕ) → g (q + 2) ≡ f q) → out ≡ map (course_value c g) (range_with_len m len)
+      → out ≡ map (between from.rate to.rate f) (range_with_len first len)
+  all_between g f out m first len at same is =
+      is ∙ ap (λ i. map (course_value c g) (range_with_len i len)) at
+      ∙ same_places (course_value c g) (between from.rate to.rate f) first first len (pos 0) (λ k h. between_is g f (first + k) same)
+
+  -- an output is the interpolated value
   pub outputs_are : (xs out : List ℤ) (m first len : ℕ) → m ≡ first → out ≡ map (course_value c (two_before from xs)) (range_with_len m len)
       → out ≡ map (interpolated to.rate (heard_sound from xs)) (range_with_len first len)
-  outputs_are xs out m first len at is =
-      is ∙ ap (λ i. map (course_value c (two_before from xs)) (range_with_len i len)) at
-      ∙ same_places (course_value c (two_before from xs)) (interpolated to.rate (heard_sound from xs)) first first len (pos 0) (λ k h. output_is xs (first + k))
+  unfolding interpolated
+  outputs_are xs out m first len at is = all_between (two_before from xs) (value_at (heard_sound from xs)) out m first len at (same_heard from xs) is
+
+-- ---- from what is kept
+
+-- what a unit knows of its input, two places on: the two samples that it keeps, and the input's own past them
+abbrev pub known_on : Resampling → List ℤ → ℕ → ℤ
+known_on u xs p =
+    let next = next_after u.from u.to u.given in
+    if p == next then u.before else if p == next + 1 then u.after else two_before u.from xs p
+
+module _ (u : Resampling) (xs : List ℤ) where
+  -- it is what the window holds
+  pub window_known : (w : Window) → w.before ≡ u.before → w.after ≡ u.after → w.next ≡ next_after u.from u.to u.given → IsWindow (known_on u xs) w
+  window_known w before after next =
+      let n : ℕ = next_after u.from u.to u.given in
+      record {
+        before = before ∙ sym (cond-true (nat_eq w.next n) u.before (if w.next == n + 1 then u.after else two_before u.from xs w.next) (eq-eqb w.next n next));
+        after = after
+            ∙ sym (cond-true (nat_eq (w.next + 1) (n + 1)) u.after (two_before u.from xs (w.next + 1)) (eq-eqb (w.next + 1) (n + 1) (ap (λ k. k + 1) next)))
+            ∙ sym (cond-false (nat_eq (w.next + 1) n) u.before (if w.next + 1 == n + 1 then u.after else two_before u.from xs (w.next + 1)) (ne_eqb (w.next + 1) n (λ e. omega (arith, e, next))));
+      }
+
+  -- and the input past it
+  pub past_known : (next p : ℕ) → next ≡ next_after u.from u.to u.given → next + 2 ≤ p → known_on u xs p ≡ two_before u.from xs p
+  past_known next p is past =
+      let n : ℕ = next_after u.from u.to u.given in
+      cond-false (nat_eq p n) u.before (if p == n + 1 then u.after else two_before u.from xs p) (ne_eqb p n (λ e. omega (arith, e, is, past)))
+      ∙ cond-false (nat_eq p (n + 1)) u.after (two_before u.from xs p) (ne_eqb p (n + 1) (λ e. omega (arith, e, is, past)))
+
+  -- the two ways to count
+  pub known_is : (p : ℕ) → known_on u xs (p + 2) ≡ known u xs p
+  known_is p =
+      let n : ℕ = next_after u.from u.to u.given in
+      ap (λ v. if p + 2 == n then u.before else if p + 2 == n + 1 then u.after else v) (two_on u.from xs p)
+      ∙ ap (λ b. if p + 2 == n then u.before else if b then u.after else heard_at u.from.start (take u.from.len xs) p) (elim (cases_eq (p + 1) n) [
+        | inl e ↦ eq-eqb (p + 2) (n + 1) (omega (arith, e)) ∙ sym (eq-eqb (p + 1) n e)
+        | inr ne ↦ ne_eqb (p + 2) (n + 1) (λ e. ne (omega (arith, e))) ∙ sym (ne_eqb (p + 1) n ne)
+      ])
+
+-- what a window holds that has passed an index
+pub holds_before : (g f : ℕ → ℤ) (w : Window) (next p : ℕ) → IsWindow g w → w.next ≡ next → ((q : ℕ) → g (q + 2) ≡ f q) → p + 2 ≡ next → w.before ≡ f p
+holds_before g f w next p is end same at = is.before ∙ ap g (end ∙ sym at) ∙ same p
+
+pub holds_after : (g f : ℕ → ℤ) (w : Window) (next p : ℕ) → IsWindow g w → w.next ≡ next → ((q : ℕ) → g (q + 2) ≡ f q) → p + 1 ≡ next → w.after ≡ f p
+holds_after g f w next p is end same at =
+    let place : w.next + 1 ≡ p + 2 = omega (arith, end, at) in
+    is.after ∙ ap g place ∙ same p

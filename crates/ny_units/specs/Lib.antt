@@ -1,8 +1,10 @@
 pub mod Lines
+pub mod Neighbours
 pub mod Courses
 pub mod Envelopes
 pub mod Inputs
 pub mod Pairs
+pub mod Copies
 pub mod Playing
 pub mod Resamplings
 pub mod Voices

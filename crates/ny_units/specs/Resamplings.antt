@@ -8,6 +8,7 @@ use Rattle.ny_num.specs.declared.timing.Timing.{Timing}
 use Rattle.ny_units.specs.declared.input.Input.{Input}
 use Rattle.ny_units.specs.declared.input.Input.TheVariants.{List as Heard, Number as Fixed}
 use Rattle.ny_units.specs.Inputs.{heard_at}
+use Rattle.ny_units.specs.Neighbours.{known_at}
 
 -- a list that is heard at these times, as a sound
 abbrev pub heard_sound : Timing → List ℤ → Sound
@@ -47,6 +48,11 @@ taken_after from to n = min (next_after from to n - from.start) from.len
 -- the value two places before index p of the input: 0 before its start, and past its end
 abbrev pub two_before : Timing → List ℤ → ℕ → ℤ
 two_before from xs p = heard_at (from.start + 2) (take from.len xs) p
+
+-- the value of the input at an index as a resampling knows it, where the input's list has these samples: of what it has passed it keeps
+-- the last two
+abbrev pub known : Resampling → List ℤ → ℕ → ℤ
+known u xs p = known_at (next_after u.from u.to u.given) u.before u.after (heard_at u.from.start (take u.from.len xs)) p
 
 -- what it keeps are the last two samples that it took of this list
 pub record Remembers (u : Resampling) (xs : List ℤ) : Type 0 where

@@ -4,6 +4,7 @@
 #![tactic(auto)]
 
 mod abs;
+mod copy;
 mod course;
 mod envelope;
 mod input;
@@ -19,6 +20,7 @@ mod voice;
 mod waves;
 
 pub use abs::AbsUnit;
+pub use copy::CopyUnit;
 pub use input::{Input, Source};
 pub use leaves::{Knot, Leaf};
 pub use pair::PairUnit;

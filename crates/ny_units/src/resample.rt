@@ -6,7 +6,8 @@ ghost use Rattle.ny_list.specs.Steps.{IsComputed};
 ghost use Rattle.ny_list.specs.Reading.{Shows};
 ghost use Rattle.ny_num.specs.Resampling.{other_rate_timing, interpolated};
 ghost use Rattle.ny_units.specs.Courses.{IsCourse, IsWindow, place_at, course_value};
-ghost use Rattle.ny_units.specs.Resamplings.{heard_sound, cursor_of, IsHeardAt, next_after, taken_after, two_before, Remembers, CanTake, CanResample};
+ghost use Rattle.ny_units.specs.Neighbours.{between};
+ghost use Rattle.ny_units.specs.Resamplings.{heard_sound, cursor_of, IsHeardAt, next_after, taken_after, two_before, known, Remembers, CanTake, CanResample};
 
 use crate::course::{Course, Window};
 use crate::input::Input;
@@ -44,7 +45,8 @@ fn samples_ahead<'a>(
     }
 }
 
-// The outputs from index `m` on, run by run of the input. Answers the window at the last one.
+// The outputs from index `m` on, run by run of the input. Answers the window at the last one. What the first window holds may be
+// anything; past it the input's samples are read.
 fn fill_runs(
     course: &Course,
     reads: &Reads<'_>,
@@ -62,8 +64,8 @@ fn fill_runs(
     requires exhausted { reader.now ≡ None → from.now.len ≤ first.next - from.now.start }
     requires computed { ForSome reader.now (λ c. 0 < length out.old → IsComputed reads.now c (min (place_at course.now (m + length out.old - 1) + 2 - from.now.start) from.now.len - c.place)) }
     ensures next { result.next ≡ (if length out.old == 0 then first.next else place_at course.now (m + length out.old - 1) + 2) }
-    ensures samples { (xs : List ℤ) → ForSome reader.now (λ c. Shows reads.now c.list xs) → IsWindow (two_before from.now xs) first → out.new ≡ map (course_value course.now (two_before from.now xs)) (range_with_len m (length out.old)) }
-    ensures window { (xs : List ℤ) → ForSome reader.now (λ c. Shows reads.now c.list xs) → IsWindow (two_before from.now xs) first → IsWindow (two_before from.now xs) result }
+    ensures samples { (xs : List ℤ) → ForSome reader.now (λ c. Shows reads.now c.list xs) → (g : ℕ → ℤ) → IsWindow g first → ((p : ℕ) → first.next + 2 ≤ p → g p ≡ two_before from.now xs p) → out.new ≡ map (course_value course.now g) (range_with_len m (length out.old)) }
+    ensures window { (xs : List ℤ) → ForSome reader.now (λ c. Shows reads.now c.list xs) → (g : ℕ → ℤ) → IsWindow g first → ((p : ℕ) → first.next + 2 ≤ p → g p ≡ two_before from.now xs p) → IsWindow g result }
 {
     let silence = [Sample::ZERO; 16];
     let mut window = first;
@@ -146,6 +148,9 @@ impl ResampleUnit {
         ensures reader { self.new.reader ≡ self.old.reader }
         ensures given { self.new.given ≡ from + length out.old }
         ensures samples { (xs : List ℤ) → ForSome self.old.reader (λ c. Shows reads.now c.list xs) → Remembers self.old xs → out.new ≡ map (interpolated self.old.to.rate (heard_sound self.old.from xs)) (range_with_len (self.old.to.start + from) (length out.old)) }
+        ensures rest { (xs : List ℤ) → ForSome self.old.reader (λ c. Shows reads.now c.list xs) → out.new ≡ map (between self.old.from.rate self.old.to.rate (known self.old xs)) (range_with_len (self.old.to.start + from) (length out.old)) }
+        ensures before { (xs : List ℤ) → ForSome self.old.reader (λ c. Shows reads.now c.list xs) → (p : ℕ) → p + 2 ≡ next_after self.new.from self.new.to self.new.given → self.new.before ≡ known self.old xs p }
+        ensures after { (xs : List ℤ) → ForSome self.old.reader (λ c. Shows reads.now c.list xs) → (p : ℕ) → p + 1 ≡ next_after self.new.from self.new.to self.new.given → self.new.after ≡ known self.old xs p }
         ensures remembers { (xs : List ℤ) → ForSome self.old.reader (λ c. Shows reads.now c.list xs) → Remembers self.old xs → Remembers self.new xs }
     {
         let course = Course::between(self.from.rate, self.to.rate);

@@ -4,4 +4,5 @@ pub mod Reaches
 pub mod PlacedThreshold
 pub mod StepLists
 pub mod LeastInverse
+pub mod NeverFalls
 pub mod WorkedRows

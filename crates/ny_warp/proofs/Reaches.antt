@@ -14,7 +14,7 @@ use Rattle.ny_warp.proofs.Quotients.{part-le, div_ceil-reaches, div_ceil-before,
 use Rattle.ny_warp.proofs.Segments.{corner-step, corner-right, value-left, value-right}
 
 -- no value lies below the start
-value-ge : (x y : ℕ) (ps : List Point) (v : ℕ) → RisesFrom x y ps → x ≤ v → y ≤ value_from x y ps v
+pub value-ge : (x y : ℕ) (ps : List Point) (v : ℕ) → RisesFrom x y ps → x ≤ v → y ≤ value_from x y ps v
 value-ge x y [] v rises le = omega arith
 value-ge x y (p ∷ ps) v rises le =
     elim (cases_lt v p.x) [

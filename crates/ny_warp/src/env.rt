@@ -1,4 +1,4 @@
-ghost use Rattle.std.specs.Prelude.{◌≡◌, IfOk, OnOk, OnErr};
+ghost use Rattle.std.specs.Prelude.{◌≡◌, ◌≤◌, ◌≤ℤ◌, ℤ, IfOk, OnOk, OnErr};
 ghost use Rattle.ny_warp.specs.Environment.{opening, global_time, least_local, shifted, stretched, warped, louder, sustained, transposed, at_sound_rate, at_control_rate, from_stop};
 
 use crate::map::Map;
@@ -64,6 +64,14 @@ impl Env {
         ensures { result ≡ global_time self.now v }
     {
         self.steps.through(placed(self.d, self.s, ticks_of(v)))
+    }
+
+    /// The law that a later local time has no earlier global time.
+    #[tactic(auto, using(crate::proofs::NeverFalls::never_falling))]
+    pub fn never_falls(&self)
+        ensures { (v w : ℤ) → v ≤ℤ w → global_time self.now v ≤ global_time self.now w }
+    {
+        self.steps.never_falls();
     }
 
     /// The least time that all steps together take to the global time `t` or later, or the horizon

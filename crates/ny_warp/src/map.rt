@@ -222,6 +222,14 @@ impl Map {
         let _points = &self.points;
     }
 
+    /// The law that a later time has no earlier value.
+    #[tactic(auto, using(crate::proofs::NeverFalls::never_falling))]
+    pub(crate) fn never_falls(&self)
+        ensures { (v w : ℕ) → v ≤ w → map_value self.now v ≤ map_value self.now w }
+    {
+        let _points = &self.points;
+    }
+
     /// The value at a time (`docs/DEFINITIONS.md`, "The warp").
     pub fn value(&self, x: Ticks) -> Ticks
         ensures { result ≡ map_value self.now x }

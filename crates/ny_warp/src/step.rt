@@ -103,6 +103,14 @@ impl Step {
         })
     }
 
+    /// The law that a later time has no earlier value.
+    #[tactic(auto, using(crate::proofs::NeverFalls::never_falling))]
+    fn never_falls(&self)
+        ensures { (v w : ℕ) → v ≤ w → step_value self.now v ≤ step_value self.now w }
+    {
+        self.map.never_falls();
+    }
+
     fn value(&self, x: Ticks) -> Ticks
         ensures { result ≡ step_value self.now x }
     {
@@ -165,6 +173,15 @@ impl Steps {
             items.push(step.copy()?)?;
         }
         Ok(Steps { items })
+    }
+
+    /// The law that no later time is taken to an earlier one.
+    pub(crate) fn never_falls(&self)
+        ensures { (v w : ℕ) → v ≤ w → through self.now v ≤ through self.now w }
+    {
+        for step in &self.items {
+            step.never_falls();
+        }
     }
 
     /// A time taken through all steps.

@@ -1,5 +1,5 @@
 use Rattle.std.proofs.Common.{sym, ◌∙◌}
-use Rattle.ny_eval.proofs.InnerLemmas.{inner_first, inner_second, inner_at, inner_stretch, inner_loud, inner_sustain, inner_transpose, inner_warp, inner_rate}
+use Rattle.ny_eval.proofs.InnerLemmas.{inner_first, inner_second, inner_at, inner_stretch, inner_loud, inner_sustain, inner_transpose, inner_warp, inner_sound_rate, inner_rate}
 use Rattle.ny_eval.proofs.inner.inner.Goals as goal
 
 pub returns-then-branch : goal.returns-then-branch
@@ -25,6 +25,9 @@ returns-in_ok-number-in-Transpose c = record { inner = inner_transpose c.args.p.
 
 pub returns-in_ok-warp-in-Warp : goal.returns-in_ok-warp-in-Warp
 returns-in_ok-warp-in-Warp c = record { inner = inner_warp c.args.p.now c.args.e.0 c.node.result.now c.args.env.now c.node.ensures.value c.node.ensures.ordered c.requires.built c.in-Warp.map c.in-Warp.part c.warp.new.self c.in-Warp.is c.in_ok-warp-in-Warp.ensures.ok }
+
+pub returns-in-SoundRate : goal.returns-in-SoundRate
+returns-in-SoundRate c = record { inner = inner_sound_rate c.args.p.now c.args.e.0 c.node.result.now c.args.env.now c.node.ensures.value c.node.ensures.ordered c.requires.built c.in-SoundRate.rate c.in-SoundRate.part c.sound_rate.new.self c.in-SoundRate.is c.sound_rate.ensures }
 
 pub returns-in-ControlRate : goal.returns-in-ControlRate
 returns-in-ControlRate c = record { inner = inner_rate c.args.p.now c.args.e.0 c.node.result.now c.args.env.now c.node.ensures.value c.node.ensures.ordered c.requires.built c.in-ControlRate.rate c.in-ControlRate.part c.control_rate.new.self c.in-ControlRate.is c.control_rate.ensures }

@@ -1,6 +1,6 @@
 use Rattle.std.proofs.Common.{[], ◌∙◌, arith, refl}
 use Rattle.ny_check.specs.Values.{number_of}
-use Rattle.ny_eval.proofs.EvalLemmas.{on_err}
+use Rattle.ny_eval.proofs.AnswerLemmas.{on_err}
 use Rattle.ny_eval.proofs.LeafLemmas.{noise_is, sustained_rate}
 use Rattle.ny_eval.proofs.TurnLemmas.{before_none, turns_as}
 use Rattle.ny_eval.proofs.leaf.noise.Goals as goal

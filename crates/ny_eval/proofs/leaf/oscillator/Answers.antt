@@ -1,7 +1,7 @@
 use Rattle.std.proofs.Common.{[], ap, ◌∙◌, arith, refl}
 use Rattle.ny_num.specs.Leaves.{increment, key_hz}
 use Rattle.ny_check.specs.Values.{number_of}
-use Rattle.ny_eval.proofs.EvalLemmas.{on_err}
+use Rattle.ny_eval.proofs.AnswerLemmas.{on_err}
 use Rattle.ny_eval.proofs.LeafLemmas.{osc_is, sustained_rate}
 use Rattle.ny_eval.proofs.TurnLemmas.{before_none, turns_as}
 use Rattle.ny_eval.proofs.leaf.oscillator.Goals as goal

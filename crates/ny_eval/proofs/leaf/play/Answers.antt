@@ -1,4 +1,4 @@
-use Rattle.ny_eval.proofs.EvalLemmas.{if_both, err_both}
+use Rattle.ny_eval.proofs.AnswerLemmas.{if_both, err_both}
 use Rattle.ny_eval.proofs.LeafLemmas.{leaf_turns, leaf_refused}
 use Rattle.ny_eval.proofs.leaf.play.Goals as goal
 

@@ -1,6 +1,6 @@
 use Rattle.std.proofs.Common.{[], refl, ◌∙◌, arith}
 use Rattle.ny_check.specs.Values.{number_of}
-use Rattle.ny_eval.proofs.EvalLemmas.{on_err}
+use Rattle.ny_eval.proofs.AnswerLemmas.{on_err}
 use Rattle.ny_eval.proofs.LeafLemmas.{rest_is, rest_rate}
 use Rattle.ny_eval.proofs.TurnLemmas.{before_none, turns_as}
 use Rattle.ny_eval.proofs.leaf.rest.Goals as goal

@@ -1,49 +1,62 @@
-use Rattle.std.proofs.Common.{◌≡◌, ◌<◌, ℕ, Some, None, IsSomeAnd, sym, ap, subst, ◌∙◌, refl, length, get_or, is_some, true, false}
-use Rattle.ny_heap.specs.declared.sound.Sound.{Sound}
-use Rattle.ny_heap.specs.declared.sound.Reading.{Reading}
+use Rattle.std.proofs.Common.{◌≡◌, ◌∙◌, ◌-◌, Some, sym, ap, subst, arith}
+use Rattle.ny_list.proofs.IndexLemmas.{same_some}
 use Rattle.ny_heap.specs.declared.table.Unit.{Unit as UnitData}
-use Rattle.ny_heap.specs.declared.table.Table.{Table}
-use Rattle.ny_heap.specs.Heap.{Reader, stands_in}
-use Rattle.ny_heap.specs.Table.{unit_at, input_of, IsTable, IsRead, kept_reader}
-use Rattle.ny_heap.proofs.TableLemmas.{same_some}
-use Rattle.ny_heap.proofs.PassLemmas.{some_and}
-use Rattle.ny_heap.proofs.SettleLemmas.{reader_at, kept_by}
+use Rattle.ny_heap.specs.declared.table.Next.TheVariants.{Drop, Pass}
+use Rattle.ny_heap.specs.Work.{cursor_at, need_in}
+use Rattle.ny_heap.specs.Filling.{IsNextOf}
+use Rattle.ny_heap.proofs.NextLemmas.{settling_there, inside_of, its_end, need_now, passed_less, drops_closed, drops_passed, passes_on}
 use Rattle.ny_heap.proofs.table.next_of.Goals as goal
+use Rattle.ny_heap.proofs.table.next_of.Goals.{then-not-is_unfilled-via-then-not-is_unfilled, then-not-is_unfilled-via-else-not-is_unfilled+then-need-visible}
 
--- the reader at an input
-reads : (t : Table) (u i : ℕ) (x : UnitData) (s : Sound) (r : Reading) → unit_at t u ≡ Some x → IsSomeAnd (unit_at t u) (λ q. i < length q.inputs.items) → s ≡ get_or x.inputs.items i s → s.reading ≡ Some r → input_of x i ≡ Some (record { node = r.unit; place = r.place; timing = s.timing })
-reads t u i x s r at there is reading =
-    let y = some_and _ _ there in
-    reader_at x.inputs.items i s (Some r) (subst (λ (q : UnitData). i < length q.inputs.items) (same_some (sym y.1 ∙ at)) y.2) is reading
+pub computed-requires : goal.computed-requires
+computed-requires c = settling_there c.args.table.now c.args.u c.args.i c.requires.settling
 
-found : (t : Table) (u i : ℕ) (x : UnitData) (r : Reader) → IsTable t → unit_at t u ≡ Some x → input_of x i ≡ Some r → (y : UnitData) × (unit_at t r.node ≡ Some y) × IsRead t u i x r y
-found t u i x r table at input = table.finds u i x r at input
+pub is_unfilled-requires-clause-there : goal.is_unfilled-requires-clause-there
+is_unfilled-requires-clause-there c = settling_there c.args.table.now c.args.u c.args.i c.requires.settling
 
-pub returns-then-not-wants_more : goal.returns-then-not-wants_more
-returns-then-not-wants_more c = λ x at.
+pub returns-then-not-is_unfilled : goal.returns-then-not-is_unfilled
+returns-then-not-is_unfilled c = λ x is.
     let t = c.args.table.now in
-    let z = c.get-unit.result.now in
-    let s = c.index-input.result.now in
-    let r : Reader = record { node = c.in-Some.reading.unit; place = c.in-Some.reading.place; timing = s.timing } in
-    let input = reads t c.args.u c.args.i z s c.in-Some.reading c.get-unit.ensures.value c.requires.there c.index-input.ensures c.in-Some.is in
-    let none : kept_reader t.block z (Some r) ≡ None = kept_by t.block z r false (sym c.wants_more.ensures ∙ c.if-not-wants_more.true) in
-    subst (λ (q : UnitData). (p : Reader) × (input_of q c.args.i ≡ Some p) × (p.node ≡ c.in-Some.reading.unit) × (kept_reader t.block q (Some p) ≡ None)) (same_some (sym c.get-unit.ensures.value ∙ at)) (r, input, refl, none)
+    let s = c.requires.settling in
+    let y = c.unit_of.result.now in
+    let d = c.in-Some.c.now in
+    let inside = inside_of t c.args.u c.args.i y c.requires.inside c.unit_of.ensures in
+    let reads : cursor_at y.work c.args.i ≡ Some d = sym c.in-Some.ensures in
+    let need = c.need-need.ensures ∙ ap (need_in y.work c.args.i) c.computed.ensures ∙ need_now t c.args.u c.args.i s y c.unit_of.ensures inside d reads in
+    subst (λ (z : UnitData). IsNextOf t c.args.u c.args.i z Drop) (same_some (sym c.unit_of.ensures ∙ is)) (
+      d,
+      reads,
+      elim c.then-not-is_unfilled.branch [
+        | then-not-is_unfilled-via-then-not-is_unfilled w ↦ drops_closed t c.args.u c.args.i s y c.unit_of.ensures inside d reads (sym c.is_unfilled.ensures ∙ w.if-not-is_unfilled.true)
+        | then-not-is_unfilled-via-else-not-is_unfilled+then-need-visible w ↦
+            drops_passed t c.args.u c.args.i s y c.unit_of.ensures inside d reads (sym c.is_unfilled.ensures ∙ w.if-not-is_unfilled.false)
+            (omega (arith, need, w.if-need-visible.true, w.visible.ensures, its_end t c.args.u c.args.i s y c.unit_of.ensures inside d reads))
+      ],
+    )
 
-pub get-read-requires : goal.get-read-requires
-get-read-requires c = record {
-  holds =
-      let x = c.get-unit.result.now in
-      let s = c.index-input.result.now in
-      let input = reads c.args.table.now c.args.u c.args.i x s c.in-Some.reading c.get-unit.ensures.value c.requires.there c.index-input.ensures c.in-Some.is in
-      ap is_some (found c.args.table.now c.args.u c.args.i x _ c.requires.table c.get-unit.ensures.value input).1;
-}
+pub overflow_sub-result : goal.overflow_sub-result
+overflow_sub-result c =
+    let t = c.args.table.now in
+    let s = c.requires.settling in
+    let y = c.unit_of.result.now in
+    let d = c.in-Some.c.now in
+    let inside = inside_of t c.args.u c.args.i y c.requires.inside c.unit_of.ensures in
+    let reads : cursor_at y.work c.args.i ≡ Some d = sym c.in-Some.ensures in
+    omega (arith, c.position.ensures.place, passed_less t c.args.u c.args.i s y c.unit_of.ensures inside d reads, c.need-need.ensures ∙ ap (need_in y.work c.args.i) c.computed.ensures ∙ need_now t c.args.u c.args.i s y c.unit_of.ensures inside d reads)
 
 pub returns : goal.returns
-returns c = λ x at.
+returns c = λ x is.
     let t = c.args.table.now in
-    let z = c.get-unit.result.now in
-    let s = c.index-input.result.now in
-    let r : Reader = record { node = c.in-Some.reading.unit; place = c.in-Some.reading.place; timing = s.timing } in
-    let input = reads t c.args.u c.args.i z s c.in-Some.reading c.get-unit.ensures.value c.requires.there c.index-input.ensures c.in-Some.is in
-    let keeps : kept_reader t.block z (Some r) ≡ Some r = kept_by t.block z r true (sym c.wants_more.ensures ∙ c.if-not-wants_more.false) in
-    subst (λ (q : UnitData). (p : Reader) × (y : UnitData) × (input_of q c.args.i ≡ Some p) × (p.node ≡ c.in-Some.reading.unit) × (kept_reader t.block q (Some p) ≡ Some p) × (unit_at t c.in-Some.reading.unit ≡ Some y) × (c.stand_in-to.result ≡ stands_in t.block y.timing.len p.place)) (same_some (sym c.get-unit.ensures.value ∙ at)) (r, c.get-read.result.now, input, refl, keeps, c.get-read.ensures.value, c.stand_in-to.ensures)
+    let s = c.requires.settling in
+    let y = c.unit_of.result.now in
+    let d = c.in-Some.c.now in
+    let inside = inside_of t c.args.u c.args.i y c.requires.inside c.unit_of.ensures in
+    let reads : cursor_at y.work c.args.i ≡ Some d = sym c.in-Some.ensures in
+    let need = c.need-need.ensures ∙ ap (need_in y.work c.args.i) c.computed.ensures ∙ need_now t c.args.u c.args.i s y c.unit_of.ensures inside d reads in
+    subst (λ (z : UnitData). IsNextOf t c.args.u c.args.i z (Pass (c.need-need.result - c.position.result))) (same_some (sym c.unit_of.ensures ∙ is)) (
+      d,
+      reads,
+      passes_on t c.args.u c.args.i s y c.unit_of.ensures inside d reads (sym c.is_unfilled.ensures ∙ c.if-not-is_unfilled.false)
+          (omega (arith, need, c.if-need-visible.false, c.visible.ensures, its_end t c.args.u c.args.i s y c.unit_of.ensures inside d reads))
+          (c.need-need.result - c.position.result) (omega (arith, need, c.position.ensures.place)),
+    )

@@ -1,16 +1,19 @@
-use Rattle.std.proofs.Common.{◌≡◌, ◌+◌, sym, subst, is_none, count_by}
-use Rattle.ny_heap.specs.Table.{Removes}
-use Rattle.ny_heap.proofs.TableLemmas.{AreTaken-unit, removed, table_without}
+use Rattle.std.proofs.Common.{◌≡◌, ◌∙◌, sym, ap, refl, Some, slice_set, None}
+use Rattle.ny_list.specs.Steps.{with_list}
+use Rattle.ny_list.proofs.IndexLemmas.{same_some}
+use Rattle.ny_heap.specs.Table.{unit_at}
+use Rattle.ny_heap.proofs.TableLemmas.{taken_there}
 use Rattle.ny_heap.proofs.table.remove_unit.Goals as goal
-
-pub give_all-requires : goal.give_all-requires
-give_all-requires c = AreTaken-unit c.args.table.now c.args.n c.remove-inputs.result c.requires.table c.remove-inputs.ensures.value
 
 pub returns : goal.returns
 returns c =
-    let t = c.args.table.now in
-    let x = c.remove-inputs.result in
-    let same : table_without t c.args.n c.give_all.new.pool ≡ record { units = c.remove-inputs.new.self; pool = c.give_all.new.pool; block = t.block } = λ i. record { units = sym c.remove-inputs.ensures.removed i; pool = c.give_all.new.pool; block = t.block } in
-    subst (λ n. Removes t n c.args.n x.inputs.items) same
-    (removed t c.args.n x c.give_all.new.pool c.requires.table c.remove-inputs.ensures.value c.requires.unread c.give_all.ensures
-    (subst (λ us. count_by is_none us ≡ count_by is_none t.units + 1) c.remove-inputs.ensures.removed c.remove-inputs.ensures.spare))
+    let there : unit_at c.args.table.now c.args.v ≡ Some c.unwrap-work.result = taken_there c.args.table.now.units.items c.args.v _ _ _ _ c.requires.there.there c.index_mut.ensures.value c.take.ensures.value c.unwrap-work.ensures in
+    record {
+      was = c.unwrap-work.result;
+      there = there;
+      does = refl;
+      units = ap (slice_set c.args.table.now.units.items c.args.v) c.take.ensures.after;
+      store = c.close.ensures.closed ∙ ap (λ l. with_list c.args.table.now.store l None) (ap (λ x. x.list) (same_some (sym there ∙ c.requires.there.there)) ∙ c.requires.there.end);
+      laws = c.close.ensures.laws;
+      block = refl;
+    }

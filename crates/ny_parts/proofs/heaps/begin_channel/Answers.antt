@@ -1,5 +1,5 @@
 use Rattle.ny_heap.specs.Heap.{Channel}
-use Rattle.ny_eval.proofs.EvalLemmas.{if_one}
+use Rattle.ny_eval.proofs.AnswerLemmas.{if_one}
 use Rattle.ny_parts.proofs.HeapLemmas.{sounding_made}
 use Rattle.ny_parts.proofs.heaps.begin_channel.Goals as goal
 

@@ -2,7 +2,7 @@ use Rattle.std.proofs.Common.{sym, subst}
 use Rattle.ny_num.specs.Sound.{IsTiming}
 use Rattle.ny_heap.specs.Heap.{Made}
 use Rattle.ny_heap.specs.declared.make.Make.TheVariants.{Leaf}
-use Rattle.ny_eval.proofs.EvalLemmas.{if_one}
+use Rattle.ny_eval.proofs.AnswerLemmas.{if_one}
 use Rattle.ny_parts.proofs.HeapLemmas.{sounding_made}
 use Rattle.ny_parts.proofs.heaps.begin_leaf.Goals as goal
 

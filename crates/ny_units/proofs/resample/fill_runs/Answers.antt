@@ -3,7 +3,7 @@ use Rattle.std.proofs.lemmas.List.{take_rest}
 use Rattle.std.specs.List.{range_with_len}
 use borrow.Rule.Slice.PartMut.{put_mid}
 use Rattle.ny_units.specs.Courses.{IsStretch, course_value}
-use Rattle.ny_units.proofs.Resampled.{RunsSoFar, take_later, stretch_added, stretch_on}
+use Rattle.ny_units.proofs.Resampled.{RunsSoFar, take_later, stretch_added, stretch_on, all_written}
 use Rattle.ny_units.proofs.resample.fill_runs.Goals as goal
 
 pub samples_ahead-ahead-requires-clause-ready : goal.samples_ahead-ahead-requires-clause-ready
@@ -34,3 +34,8 @@ loop-done-preserved c =
     (λ g is. c.fill_stretch-stretch.ensures.samples g is
     ∙ ap (λ ys. map (course_value c.args.course.now g) (range_with_len c.loop-done.at.index c.fill_stretch-stretch.result.written) ++ drop c.fill_stretch-stretch.result.written ys) (take_rest out done))
     c.fill_stretch-stretch.ensures.window c.samples_ahead-ahead.ensures.values c.loop-done.invariant)
+
+pub returns-clause-samples : goal.returns-clause-samples
+returns-clause-samples c = λ xs shows g is past.
+    all_written c.args.course.now c.args.reads.now c.args.reader.now c.args.from.now c.args.first c.args.m c.requires.course c.loop-done.done c.loop-done.at c.loop-done.window c.args.out.now c.loop-done.out xs g
+    (omega arith) c.loop-done.invariant shows is past

@@ -1,14 +1,14 @@
 use Rattle.std.proofs.Common.{◌≡◌, refl, ◌+◌, ◌-◌, ◌^◌, min, max, length, IsSomeAnd, IsTrue, sym, ap, subst, ◌∙◌, arith}
+use Rattle.std.proofs.lemmas.List.{with_items_is}
+use Rattle.std.proofs.lemmas.Bool.{true≢false}
 use Rattle.ny_heap.specs.Heap.{HeapState, node_at, is_open, free_of, live_of}
 use Rattle.ny_heap.specs.Means.{KeepsMeaning}
 use Rattle.ny_heap.specs.Reach.{HeapLaws}
 use Rattle.ny_heap.specs.Steps.{want_of, Fills}
 use Rattle.ny_heap.specs.View.{state_of}
 use Rattle.ny_heap.proofs.LawLemmas.{heap_laws, live_is}
-use Rattle.ny_heap.proofs.WantLemmas.{is_ready}
-use Rattle.std.proofs.lemmas.List.{with_items_is}
-use Rattle.std.proofs.lemmas.Bool.{true≢false}
-use Rattle.ny_heap.proofs.FillLemmas.{IsHeap-fills, block_same}
+use Rattle.ny_heap.proofs.ReadyLemmas.{can_fill}
+use Rattle.ny_heap.proofs.FillLemmas.{IsHeap-fills, block_same, pool_same}
 use Rattle.ny_heap.proofs.FillStepLemmas.{filled_is}
 use Rattle.ny_heap.proofs.FillMeansLemmas.{fill_keeps}
 use Rattle.ny_heap.proofs.heap.Heap.fill.Goals as goal
@@ -16,7 +16,7 @@ use Rattle.ny_heap.proofs.heap.Heap.fill.Goals as goal
 pub fill_block-requires-clause-ready : goal.fill_block-requires-clause-ready
 fill_block-requires-clause-ready g c =
     let i = c.self.inside in
-    is_ready g.row.B.Denot i.table i.fills i.peak c.args.u.0.0 (subst (λ (h : HeapState g.row.B.Denot). IsSomeAnd (node_at h c.args.u.0.0) (λ x. IsTrue (is_open h.block x))) (sym c.self.view_is) c.requires.«open») (ap (λ (h : HeapState g.row.B.Denot). want_of h c.args.u.0.0) c.self.view_is ∙ c.requires.ready)
+    can_fill g.row.B.Denot i.table i.fills i.peak c.args.u.0.0 c.self.invariant.heap (subst (λ (h : HeapState g.row.B.Denot). IsSomeAnd (node_at h c.args.u.0.0) (λ x. IsTrue (is_open h.block x))) (sym c.self.view_is) c.requires.«open») (ap (λ (h : HeapState g.row.B.Denot). want_of h c.args.u.0.0) c.self.view_is ∙ c.requires.ready)
 
 pub returns-then-free-eq0-clause-laws : goal.returns-then-free-eq0-clause-laws
 returns-then-free-eq0-clause-laws g c =
@@ -33,23 +33,23 @@ pub invariant_of-self : goal.invariant_of-self
 invariant_of-self g c =
     let i = c.self.inside in
     let v = c.self.invariant in
+    let ready = can_fill g.row.B.Denot i.table i.fills i.peak c.args.u.0.0 v.heap (subst (λ (h : HeapState g.row.B.Denot). IsSomeAnd (node_at h c.args.u.0.0) (λ x. IsTrue (is_open h.block x))) (sym c.self.view_is) c.requires.«open») (ap (λ (h : HeapState g.row.B.Denot). want_of h c.args.u.0.0) c.self.view_is ∙ c.requires.ready) in
     let fills = c.fill_block.ensures.fills in
-    let block = block_same i.table c.fill_block.new.table c.args.u.0.0 c.fill_block.new.out v.heap fills in
-    let size : length c.fill_block.new.table.pool.blocks ≡ length i.table.pool.blocks = fills.settles.same.pool ∙ fills.appends.same.pool in
+    let block = block_same i.table c.fill_block.new.table c.args.u.0.0 c.fill_block.new.out ready fills in
+    let size = pool_same i.table c.fill_block.new.table c.args.u.0.0 c.fill_block.new.out ready fills in
     let most = live_is g.row.B.Denot i.table v.heap i.fills i.peak in
     record {
-      heap = IsHeap-fills i.table c.fill_block.new.table c.args.u.0.0 c.fill_block.new.out v.heap fills;
+      heap = IsHeap-fills i.table c.fill_block.new.table c.args.u.0.0 c.fill_block.new.out ready fills;
       counted = v.counted ∙ sym size;
-      reached = omega (arith, c.max-self-inside.ensures, v.reached, v.counted, most, c.free-free.ensures.free, c.if-free-eq0.false);
+      reached = omega (arith, c.max-self-inside.ensures, v.reached, v.counted, c.free-free.ensures.free, c.if-free-eq0.false);
       few = omega (arith, c.saturating_add-self-inside.ensures, v.few);
       whole = ap length (with_items_is i.out c.fill_block.new.out (omega (arith, c.fill_block.ensures.len, c.as_mut_slice.ensures.value, ap length c.as_mut_slice.ensures.value, i.out.ok.0))) ∙ c.fill_block.ensures.len ∙ ap length c.as_mut_slice.ensures.value ∙ v.whole ∙ sym block;
-      second = ap length (with_items_is i.other c.fill_block.new.other (omega (arith, c.fill_block.ensures.second, ap length c.as_mut_slice-2.ensures.value, i.other.ok.0))) ∙ c.fill_block.ensures.second ∙ ap length c.as_mut_slice-2.ensures.value ∙ v.second ∙ sym block;
     }
 
 pub returns-clause-laws : goal.returns-clause-laws
 returns-clause-laws g c =
     let i = c.self.inside in
-    heap_laws g.row.B.Denot c.fill_block.new.table (IsHeap-fills i.table c.fill_block.new.table c.args.u.0.0 c.fill_block.new.out c.self.invariant.heap c.fill_block.ensures.fills) c.saturating_add-self-inside.result c.max-self-inside.result
+    heap_laws g.row.B.Denot c.fill_block.new.table (invariant_of-self g c).heap c.saturating_add-self-inside.result c.max-self-inside.result
 
 pub returns-clause-full : goal.returns-clause-full
 returns-clause-full g c =
@@ -61,15 +61,16 @@ pub returns-clause-fills : goal.returns-clause-fills
 returns-clause-fills g c =
     let i = c.self.inside in
     let v = c.self.invariant in
+    let ready = can_fill g.row.B.Denot i.table i.fills i.peak c.args.u.0.0 v.heap (subst (λ (h : HeapState g.row.B.Denot). IsSomeAnd (node_at h c.args.u.0.0) (λ x. IsTrue (is_open h.block x))) (sym c.self.view_is) c.requires.«open») (ap (λ (h : HeapState g.row.B.Denot). want_of h c.args.u.0.0) c.self.view_is ∙ c.requires.ready) in
     let counts : c.saturating_add-self-inside.result ≡ min (i.fills + 1) (2 ^ 64 - 1) = omega (arith, c.saturating_add-self-inside.ensures) in
-    let peaks : c.max-self-inside.result ≡ max i.peak (live_of {B = g.row.B.Denot} (state_of i.table i.fills i.peak) + 1) = omega (arith, c.max-self-inside.ensures, v.counted, c.free-free.ensures.free, live_is g.row.B.Denot i.table v.heap i.fills i.peak) in
+    let peaks : c.max-self-inside.result ≡ max i.peak (live_of {B = g.row.B.Denot} (state_of i.table i.fills i.peak) + 1) = omega (arith, c.max-self-inside.ensures, v.counted, c.free-free.ensures.free, c.if-free-eq0.false, live_is g.row.B.Denot i.table v.heap i.fills i.peak) in
     subst (λ h. Fills {B = g.row.B.Denot} h (state_of c.fill_block.new.table c.saturating_add-self-inside.result c.max-self-inside.result) c.args.u.0.0) c.self.view_is
-    (filled_is g.row.B.Denot i.table c.fill_block.new.table c.args.u.0.0 c.fill_block.new.out v.heap c.fill_block.ensures.fills i.fills i.peak c.saturating_add-self-inside.result c.max-self-inside.result counts peaks)
+    (filled_is g.row.B.Denot i.table c.fill_block.new.table c.args.u.0.0 c.fill_block.new.out ready c.fill_block.ensures.fills i.fills i.peak c.saturating_add-self-inside.result c.max-self-inside.result counts peaks)
 
 pub returns-clause-keeps : goal.returns-clause-keeps
 returns-clause-keeps g c =
     let i = c.self.inside in
     let v = c.self.invariant in
-    let ready = is_ready g.row.B.Denot i.table i.fills i.peak c.args.u.0.0 (subst (λ (h : HeapState g.row.B.Denot). IsSomeAnd (node_at h c.args.u.0.0) (λ x. IsTrue (is_open h.block x))) (sym c.self.view_is) c.requires.«open») (ap (λ (h : HeapState g.row.B.Denot). want_of h c.args.u.0.0) c.self.view_is ∙ c.requires.ready) in
+    let ready = can_fill g.row.B.Denot i.table i.fills i.peak c.args.u.0.0 v.heap (subst (λ (h : HeapState g.row.B.Denot). IsSomeAnd (node_at h c.args.u.0.0) (λ x. IsTrue (is_open h.block x))) (sym c.self.view_is) c.requires.«open») (ap (λ (h : HeapState g.row.B.Denot). want_of h c.args.u.0.0) c.self.view_is ∙ c.requires.ready) in
     subst (λ h. KeepsMeaning {B = g.row.B.Denot} h (state_of c.fill_block.new.table c.saturating_add-self-inside.result c.max-self-inside.result)) c.self.view_is
-    (fill_keeps g.row.B.Denot i.table c.fill_block.new.table c.args.u.0.0 c.fill_block.new.out v.heap c.fill_block.ensures.fills ready (c.fill_block.ensures.len ∙ ap length c.as_mut_slice.ensures.value ∙ v.whole) i.fills i.peak c.saturating_add-self-inside.result c.max-self-inside.result)
+    (fill_keeps g.row.B.Denot i.table c.fill_block.new.table c.args.u.0.0 c.fill_block.new.out ready c.fill_block.ensures.fills (c.fill_block.ensures.len ∙ ap length c.as_mut_slice.ensures.value ∙ v.whole) i.fills i.peak c.saturating_add-self-inside.result c.max-self-inside.result)

@@ -1,4 +1,4 @@
-use Rattle.std.proofs.Common.{◌≡◌, subst, arith}
+use Rattle.std.proofs.Common.{◌≡◌, ◌∙◌, ◌-◌, subst, sym, ap, length}
 use Rattle.ny_heap.specs.Heap.{free_of}
 use Rattle.ny_heap.specs.Reach.{HeapLaws}
 use Rattle.ny_heap.proofs.LawLemmas.{heap_laws, live_is}
@@ -7,7 +7,8 @@ use Rattle.ny_heap.proofs.heap.Heap.free.Goals as goal
 pub returns-clause-free : goal.returns-clause-free
 returns-clause-free g c =
     let i = c.self.inside in
-    subst (λ s. c.free.result ≡ free_of {B = g.row.B.Denot} s) c.self.view_is (omega (arith, c.free.ensures.free, live_is g.row.B.Denot i.table c.self.invariant.heap i.fills i.peak))
+    subst (λ s. c.free.result ≡ free_of {B = g.row.B.Denot} s) c.self.view_is
+    (c.free.ensures.free ∙ ap (λ n. length i.table.store.loose - n) (sym (live_is g.row.B.Denot i.table c.self.invariant.heap i.fills i.peak)))
 
 pub returns-clause-laws : goal.returns-clause-laws
 returns-clause-laws g c =

@@ -7,7 +7,8 @@ use Rattle.ny_heap.proofs.heap.Heap.live.Goals as goal
 pub returns-clause-live : goal.returns-clause-live
 returns-clause-live g c =
     let i = c.self.inside in
-    subst (λ s. i.size - c.free.result ≡ live_of {B = g.row.B.Denot} s) c.self.view_is (omega (arith, c.free.ensures.free, c.self.invariant.counted, live_is g.row.B.Denot i.table c.self.invariant.heap i.fills i.peak))
+    subst (λ s. i.size - c.free.result ≡ live_of {B = g.row.B.Denot} s) c.self.view_is
+    (omega (arith, c.free.ensures.free, c.free.ensures.laws.taken, c.self.invariant.counted, live_is g.row.B.Denot i.table c.self.invariant.heap i.fills i.peak))
 
 pub returns-clause-laws : goal.returns-clause-laws
 returns-clause-laws g c =

@@ -1,6 +1,4 @@
-use Rattle.std.proofs.Common.{◌≡◌, inl, ◌+◌, ◌++◌, length, drop, is_err, true, false, sym, ap, subst, ◌∙◌, arith}
-use Rattle.ny_check.specs.declared.node.ExprId.{ExprId}
-use Rattle.ny_eval.specs.Below.{IsRanked}
+use Rattle.std.proofs.Common.{◌≡◌, inl, ◌++◌, length, drop, is_err, true, false, sym, ap, ◌∙◌, arith}
 use Rattle.ny_pull.specs.Engine.{EngineState}
 use Rattle.ny_pull.proofs.PlayLemmas.{open_of, few_pulls, held_then, pulled_block, stopped_size}
 use Rattle.ny_pull.proofs.EngineLemmas.{has_ended, not_ended, none_next, next_is, one_pull, same_piece, spends, read_gives, at_failed, at_done, all_taken, full_now, none_spent}

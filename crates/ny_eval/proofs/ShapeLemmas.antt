@@ -1,0 +1,92 @@
+-- A sound without signs or filtered, as the unit that computes it gives it.
+use Rattle.std.proofs.Common.{◌≡◌, ℕ, ◌+◌, ◌-◌, ◌≤◌, List, [], ◌∷◌, length, get_or, drop, Some, refl, sym, ap, subst, ◌∙◌, arith, ℤ, pos}
+use Rattle.std.proofs.lemmas.List.FromFn.{fill_by_all}
+use Rattle.ny_num.specs.declared.rate.Rate.{Rate}
+use Rattle.ny_num.specs.Filters.{one_pole, biquad, comb, comb_delay, at_rest}
+use Rattle.ny_num.specs.Leaves as leaves
+use Rattle.ny_num.specs.Numbers.{sample_abs}
+use Rattle.ny_num.specs.Pointwise.{each_value}
+use Rattle.ny_num.specs.Sound as sounds
+use Rattle.ny_num.specs.Sound.{timing_of, sound_of, value_at}
+use Rattle.ny_num.proofs.SoundTimings.{length-one_pole, length-biquad, length-comb}
+use Rattle.ny_filters.specs.Filtering.{IsFilter, silent, outputs_after}
+use Rattle.ny_filters.specs.declared.filter.Filter.{Filter as FilterOf}
+use Rattle.ny_filters.specs.declared.filter.Filter.TheVariants as filter
+use Rattle.ny_heap.specs.Heap.{Filtered}
+use Rattle.ny_heap.specs.Means.{made_value}
+use Rattle.ny_heap.specs.declared.make.Make.TheVariants as make
+use Rattle.ny_heap.specs.Heap.{HeapState}
+use Rattle.ny_heap.specs.Reach.{HeapLaws}
+use Rattle.ny_heap.specs.declared.make.Make.{Make}
+use Rattle.ny_heap.specs.declared.sound.Sound.{Sound}
+use Rattle.ny_eval.specs.Made.{made_with, IsSingle}
+use Rattle.ny_eval.specs.Shapes.{shaped, make_of}
+use Rattle.ny_eval.specs.Turns.{Turns, Replaces}
+use Rattle.ny_eval.proofs.BringLemmas.{timing_rate}
+use Rattle.ny_eval.proofs.HandLemmas.{turn_replaced}
+use Rattle.ny_eval.proofs.TurnLemmas.{turns_as}
+use Rattle.ny_eval.proofs.UnitLemmas.{each_is}
+use Rattle.ny_eval.specs.declared.filter.Shape.{Shape}
+use Rattle.ny_eval.specs.declared.filter.Shape.TheVariants as shape
+use Rattle.ny_eval.proofs.LeafLemmas.{leaf_is}
+
+-- the sound of this timing with these samples
+abbrev remade : sounds.Sound → List ℤ → sounds.Sound
+remade m xs = record { rate = m.rate; start = m.start; stop = m.stop; samples = xs }
+
+-- samples by their places from the start are the samples
+by_places : (m : sounds.Sound) (xs : List ℤ) → length xs ≡ length m.samples → sound_of (timing_of m) (λ k. get_or xs (k - m.start) (pos 0)) ≡ remade m xs
+unfolding timing_of leaves.leaf
+by_places m xs same = leaf_is (timing_of m) (λ n. get_or xs n (pos 0)) ∙ ap (remade m) (sym (fill_by_all (λ n. get_or xs n (pos 0)) xs (length m.samples) (pos 0) same (λ k within. refl)))
+
+-- what a filter gives for the whole sound
+filter_is : (f : FilterOf) (m : sounds.Sound) → length (outputs_after f (silent f) m.samples) ≡ length m.samples → sound_of (timing_of m) (made_value (make.Filter f) (timing_of m) (Filtered (silent f)) m.start (Some m ∷ [])) ≡ remade m (outputs_after f (silent f) m.samples)
+unfolding timing_of
+filter_is f m same =
+    let none : m.start - m.start ≡ 0 = omega arith in
+    ap (λ n. sound_of (timing_of m) (λ k. get_or (outputs_after f (silent f) (drop n m.samples)) (k - m.start) (pos 0))) none
+    ∙ by_places m (outputs_after f (silent f) m.samples) same
+
+abs_made : (m : sounds.Sound) → sound_of (timing_of m) (λ k. sample_abs (value_at m k)) ≡ each_value sample_abs m
+abs_made m = each_is sample_abs m
+
+one_pole_made : (a : ℤ) (m : sounds.Sound) → sound_of (timing_of m) (made_value (make.Filter (filter.OnePole a)) (timing_of m) (Filtered (silent (filter.OnePole a))) m.start (Some m ∷ [])) ≡ one_pole a m
+unfolding one_pole
+one_pole_made a m = filter_is (filter.OnePole a) m (length-one_pole a (pos 0) m.samples)
+
+biquad_made : (b0 b1 b2 a1 a2 : ℤ) (m : sounds.Sound) → sound_of (timing_of m) (made_value (make.Filter (filter.Biquad b0 b1 b2 a1 a2)) (timing_of m) (Filtered (silent (filter.Biquad b0 b1 b2 a1 a2))) m.start (Some m ∷ [])) ≡ biquad (record { b0 = b0; b1 = b1; b2 = b2; a1 = a1; a2 = a2 }) m
+unfolding biquad
+biquad_made b0 b1 b2 a1 a2 m = filter_is (filter.Biquad b0 b1 b2 a1 a2) m (length-biquad (record { b0 = b0; b1 = b1; b2 = b2; a1 = a1; a2 = a2 }) at_rest m.samples)
+
+comb_made : (delay : ℕ) (gain : ℤ) (m : sounds.Sound) → sound_of (timing_of m) (made_value (make.Filter (filter.Comb delay gain)) (timing_of m) (Filtered (silent (filter.Comb delay gain))) m.start (Some m ∷ [])) ≡ comb delay gain m
+unfolding comb
+comb_made delay gain m = filter_is (filter.Comb delay gain) m (length-comb delay gain [] m.samples)
+
+-- a delay is one of a comb
+delay_within : (rate : Rate) (delay gain : ℤ) → IsFilter (filter.Comb (comb_delay rate delay) gain)
+unfolding comb_delay
+delay_within rate delay gain = (omega arith, omega arith)
+
+-- what a shape makes of a sound, as the unit that computes it
+pub shape_is : (s : Shape) (m : sounds.Sound) → made_with (make_of s m.rate) m ≡ shaped s m
+unfolding timing_of
+shape_is shape.Abs m = abs_made m
+shape_is (shape.OnePole a) m = one_pole_made a m
+shape_is (shape.Biquad b0 b1 b2 a1 a2) m = biquad_made b0 b1 b2 a1 a2 m
+shape_is (shape.Comb delay gain) m = comb_made (comb_delay m.rate delay) gain m
+
+pub shape_single : (s : Shape) (rate : Rate) (unit : Make) → unit ≡ make_of s rate → IsSingle unit
+shape_single s rate unit is = subst IsSingle (sym is) (by_shape s)
+  where
+    by_shape : (k : Shape) → IsSingle (make_of k rate)
+    by_shape shape.Abs = tt
+    by_shape (shape.OnePole a) = tt
+    by_shape (shape.Biquad b0 b1 b2 a1 a2) = tt
+    by_shape (shape.Comb delay gain) = delay_within rate delay gain
+
+-- a sound that just came, and what is made of it
+pub shaped_turns : {B : Type 0} (old mid new : HeapState B) (a s : Sound) (height top : ℕ) (m : sounds.Sound) (made other : Shape) (unit : Make) → height + 1 ≤ top → HeapLaws old → Turns old mid a height m → unit ≡ make_of made a.timing.rate → made ≡ other → Replaces mid new a s 1 (made_with unit) → Turns old new s top (shaped other m)
+shaped_turns old mid new a s height top m made other unit le laws turn is same replaces =
+    turns_as old new s top top (made_with unit m) (shaped other m) (omega arith)
+    (ap (λ k. made_with k m) (is ∙ ap (make_of made) (timing_rate a.timing m turn.timing)) ∙ (shape_is made m ∙ ap (λ k. shaped k m) same))
+    (turn_replaced old mid new a s height 1 top m (made_with unit) le laws turn replaces)

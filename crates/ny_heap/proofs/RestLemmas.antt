@@ -1,0 +1,71 @@
+-- The cursors that are left of a unit's work.
+use Rattle.std.proofs.Common.{◌≡◌, ℕ, zero, suc, ◌+◌, ◌-◌, ◌<◌, ◌≤◌, [], ◌∷◌, length, map, Option, None, Some, refl, sym, ap, ◌∙◌, arith}
+use Rattle.std.specs.List.{range_with_len, sum_by}
+use Rattle.std.specs.Option.{option_map}
+use Rattle.std.proofs.lemmas.List.FromFn.{length-map-range_with_len}
+use Rattle.ny_num.specs.declared.timing.Timing.{Timing}
+use Rattle.ny_num.proofs.WrittenLists.{same_places}
+use Rattle.ny_list.specs.Store.{CursorState}
+use Rattle.ny_list.proofs.IndexLemmas.{tab_get, sums_agree}
+use Rattle.ny_heap.specs.declared.table.Unit.{Unit as UnitData}
+use Rattle.ny_heap.specs.declared.work.Work.{Work}
+use Rattle.ny_heap.specs.declared.work.Work.TheVariants.{Leaf as LeafWork, Pair as PairWork, Abs as AbsWork, Resample as ResampleWork, Filter as FilterWork, Channel as ChannelWork}
+use Rattle.ny_heap.specs.Heap.{Reader, is_reader}
+use Rattle.ny_heap.specs.Work.{inputs_in, cursor_at, without_cursor_at}
+use Rattle.ny_heap.specs.Table.{readers_of, input_of, own_of, stands_at, rest_of, timing_at}
+
+pub same_count : (w : Work) (i : ℕ) → inputs_in (without_cursor_at w i) ≡ inputs_in w
+same_count (LeafWork p) i = refl
+same_count (PairWork p a b) i = refl
+same_count (AbsWork s) i = refl
+same_count (ResampleWork r) i = refl
+same_count (FilterWork f start) i = refl
+same_count (ChannelWork p) i = refl
+
+pub other_cursor : (w : Work) (i k : ℕ) → i < k → k < inputs_in w → cursor_at (without_cursor_at w i) k ≡ cursor_at w k
+other_cursor (LeafWork p) i k later inside = refl
+other_cursor (PairWork p (Some a) (Some b)) i k later inside = absurd (omega (arith, inside))
+other_cursor (PairWork p (Some a) None) i k later inside = absurd (omega (arith, inside, later))
+other_cursor (PairWork p None (Some b)) i k later inside = absurd (omega (arith, inside, later))
+other_cursor (PairWork p None None) zero zero later inside = absurd (omega (arith, later))
+other_cursor (PairWork p None None) zero (suc zero) later inside = refl
+other_cursor (PairWork p None None) zero (suc (suc k)) later inside = absurd (omega (arith, inside))
+other_cursor (PairWork p None None) (suc i) k later inside = absurd (omega (arith, inside, later))
+other_cursor (AbsWork s) i k later inside = absurd (omega (arith, inside, later))
+other_cursor (ResampleWork r) i k later inside = absurd (omega (arith, inside, later))
+other_cursor (FilterWork f start) i k later inside = absurd (omega (arith, inside, later))
+other_cursor (ChannelWork p) i k later inside = absurd (omega (arith, inside, later))
+
+pub rest_done : (w : Work) (i : ℕ) → inputs_in w ≤ i → rest_of w i ≡ []
+rest_done w i past = let e : inputs_in w - i ≡ 0 = omega (arith, past) in ap (λ n. map (cursor_at w) (range_with_len i n)) e
+
+pub rest_more : (w : Work) (i : ℕ) → i < inputs_in w → rest_of w i ≡ cursor_at w i ∷ rest_of w (i + 1)
+rest_more w i inside =
+    let e : inputs_in w - i ≡ suc (inputs_in w - (i + 1)) = omega (arith, inside) in
+    ap (λ n. map (cursor_at w) (range_with_len i n)) e ∙ ap (λ m. cursor_at w i ∷ map (cursor_at w) (range_with_len m (inputs_in w - (i + 1)))) (omega arith)
+
+pub rest_without : (w : Work) (i : ℕ) → rest_of (without_cursor_at w i) (i + 1) ≡ rest_of w (i + 1)
+rest_without w i =
+    ap (λ n. map (cursor_at (without_cursor_at w i)) (range_with_len (i + 1) (n - (i + 1)))) (same_count w i)
+    ∙ same_places (cursor_at (without_cursor_at w i)) (cursor_at w) (i + 1) (i + 1) (inputs_in w - (i + 1)) None (λ k h. other_cursor w i (i + 1 + k) (omega arith) (omega (arith, h)))
+
+pub same_mark : (block len v j : ℕ) (t : Timing) (o : Option CursorState) → stands_at block len v j o ≡ is_reader block len v j (option_map {U = Reader} (λ c. record { node = c.list; place = c.place; timing = t }) o)
+same_mark block len v j t None = refl
+same_mark block len v j t (Some c) = refl
+
+-- a unit's cursors are those of its work
+pub own_rest : (block len v j : ℕ) (x : UnitData) → length x.inputs.items ≡ inputs_in x.work → sum_by (stands_at block len v j) (rest_of x.work 0) ≡ own_of block len v j x
+own_rest block len v j x count =
+    ap (λ n. sum_by (stands_at block len v j) (map (cursor_at x.work) (range_with_len 0 n))) all
+    ∙ sums_agree (stands_at block len v j) (is_reader block len v j) None None (map (cursor_at x.work) (range_with_len 0 n)) (readers_of x)
+    (length-map-range_with_len (cursor_at x.work) 0 n ∙ sym (length-map-range_with_len (input_of x) 0 n))
+    (λ k h. let inside : k < n = omega (arith, h, length-map-range_with_len (cursor_at x.work) 0 n) in
+    ap (stands_at block len v j) (tab_get (cursor_at x.work) n k None inside)
+    ∙ same_mark block len v j (timing_at x k) (cursor_at x.work k)
+    ∙ ap (is_reader block len v j) (sym (tab_get (input_of x) n k None inside)))
+  where
+    n : ℕ
+    n = length x.inputs.items
+
+    all : inputs_in x.work - 0 ≡ n
+    all = omega (arith, count)

@@ -1,0 +1,113 @@
+-- How a unit is made. No public clause cites this module.
+use Rattle.std.specs.Prelude.{◌≡◌, ℕ, ◌+◌, ◌<◌, ◌≤◌, ◌^◌, List, [], ◌++◌, map, All, length, replicate, slice_set, slice_index_or, Option, None, Some, Result, Ok, Err}
+use Rattle.std.specs.Option.{ForSome}
+use Rattle.std.specs.declared.alloc.AllocError.{AllocError}
+use Rattle.ny_num.specs.declared.timing.Timing.{Timing}
+use Rattle.ny_list.specs.Store.{CursorState, list_at, spare_of}
+use Rattle.ny_list.specs.Steps.{begun, with_list}
+use Rattle.ny_list.specs.Laws.{StoreLaws}
+use Rattle.ny_units.specs.Inputs.{source_of}
+use Rattle.ny_heap.specs.declared.sound.Sound.{Sound}
+use Rattle.ny_heap.specs.declared.table.Unit.{Unit as UnitData}
+use Rattle.ny_heap.specs.declared.table.Table.{Table}
+use Rattle.ny_heap.specs.declared.work.Work.{Work}
+use Rattle.ny_heap.specs.Heap.{Kind}
+use Rattle.ny_heap.specs.Steps.{first_memory}
+use Rattle.ny_heap.specs.Work.{kind_of, inputs_in, source_at, memory_in, HasGiven}
+use Rattle.ny_heap.specs.Tasks.{input_of_sound, HasSides, BeginsAt, BringsFrom, Hears}
+use Rattle.ny_heap.specs.Table.{Drops, len_of}
+
+-- some places more, with nothing in them
+abbrev pub More : {A : Type 0} → List (Option A) → List (Option A) → Type 0
+More old new = (more : ℕ) × (new ≡ old ++ replicate more None)
+
+-- there are some places more for units and for lists, and all else is as it was
+pub record Grows (old new : Table) : Type 0 where
+  pub units : More old.units.items new.units.items
+  pub lists : More old.store.lists new.store.lists
+  pub store : new.store ≡ record old.store { lists = new.store.lists }
+  pub laws : StoreLaws new.store
+  pub block : new.block ≡ old.block
+
+-- one more list can be made, and there is a place for its unit
+pub record HasRoom (t : Table) : Type 0 where
+  pub list : 0 < spare_of t.store
+  pub unit : length t.store.lists ≤ length t.units.items
+
+-- ---- a unit more
+
+-- list n is new, and its unit, which does this work and is heard so, as are its inputs
+pub record Places (old new : Table) (n : ℕ) (work : Work) (timing : Timing) (inputs : List Timing) : Type 0 where
+  pub unit : UnitData
+  pub does : unit.work ≡ work
+  pub heard : unit.timing ≡ timing
+  pub reads : unit.inputs.items ≡ inputs
+  pub end : unit.list ≡ n
+  pub place : n < length old.units.items
+  pub within : n < length old.store.lists
+  pub vacant : list_at old.store n ≡ None
+  pub units : new.units.items ≡ slice_set old.units.items n (Some unit)
+  pub store : new.store ≡ with_list old.store n (Some (begun timing.len 0))
+  pub laws : StoreLaws new.store
+  pub block : new.block ≡ old.block
+
+-- a cursor at the beginning of list n, of which it sees so much
+abbrev pub first_cursor : ℕ → ℕ → CursorState
+first_cursor n len = record { list = n; place = 0; visible = len; tag = 0 }
+
+-- unit n, which is x, is new, has given nothing, and reads these sounds
+pub record Adds (old new : Table) (n : ℕ) (x : UnitData) (sounds : List Sound) : Type 0 where
+  pub place : n < length old.units.items
+  pub within : n < length old.store.lists
+  pub vacant : list_at old.store n ≡ None
+  pub units : new.units.items ≡ slice_set old.units.items n (Some x)
+  pub store : new.store ≡ with_list old.store n (Some (begun x.timing.len 0))
+  pub laws : StoreLaws new.store
+  pub block : new.block ≡ old.block
+  pub end : x.list ≡ n
+  pub some : 0 < x.timing.len
+  pub early : x.timing.start + x.timing.len < 2 ^ 32
+  pub inputs : x.inputs.items ≡ map (λ (s : Sound). s.timing) sounds
+  pub count : length sounds ≡ inputs_in x.work
+  pub sides : HasSides x.work
+  pub begins : BeginsAt x.work x.timing
+  pub brings : BringsFrom x.work x.inputs.items
+  pub hears : Hears x.work x.timing x.inputs.items
+  pub memory : memory_in x.work ≡ first_memory (kind_of x.work) sounds
+  pub given : HasGiven x.work x.timing.len 0
+  pub sources : (i : ℕ) (s : Sound) → i < length sounds → s ≡ slice_index_or sounds i s → source_at x.work i ≡ source_of (input_of_sound s)
+
+-- a sound at the beginning of its list, of which it shows no more than there is
+pub record ShowsFirst (t : Table) (s : Sound) (c : CursorState) : Type 0 where
+  pub begins : c.place ≡ 0
+  pub some : 0 < s.timing.len
+  pub visible : s.timing.len ≤ len_of t.store c.list
+
+-- so of each of these sounds that has a sample
+abbrev pub ShowFirst : Table → List Sound → Type 0
+ShowFirst t sounds = All (λ s. ForSome s.reader (ShowsFirst t s)) sounds
+
+-- ---- what comes of making one
+
+-- these sounds are spent, and no unit is made. There may be more places
+pub record Loses (old new : Table) (sounds : List Sound) : Type 0 where
+  pub grown : Table
+  pub grows : Grows old grown
+  pub drops : Drops grown new (map (λ (s : Sound). s.reader) sounds) []
+
+-- a unit of this kind over these sounds is made, and this cursor stands at the beginning of its list
+pub record Gains (old new : Table) (kind : Kind) (timing : Timing) (sounds : List Sound) (c : CursorState) : Type 0 where
+  pub grown : Table
+  pub grows : Grows old grown
+  pub number : ℕ
+  pub unit : UnitData
+  pub does : kind_of unit.work ≡ kind
+  pub heard : unit.timing ≡ timing
+  pub adds : Adds grown new number unit sounds
+  pub cursor : c ≡ first_cursor number timing.len
+
+-- a unit is made where it has a sample, and memory is there
+abbrev pub IsMade : Table → Table → Kind → Timing → List Sound → Result (Option CursorState) AllocError → Type 0
+IsMade old new kind timing sounds (Err e) = Loses old new sounds
+IsMade old new kind timing sounds (Ok None) = (timing.len ≡ 0) × Loses old new sounds
+IsMade old new kind timing sounds (Ok (Some c)) = (0 < timing.len) × Gains old new kind timing sounds c

@@ -1,0 +1,158 @@
+ghost use Rattle.std.specs.Prelude.{◌≡◌, ℕ, ◌<◌, length, Some, None, IsSome, All, IfOk, IfErr};
+ghost use Rattle.ny_heap.specs.declared.task.Task.TheVariants.{Made as MadeTask};
+ghost use Rattle.ny_heap.specs.declared.make.Make.TheVariants.{Pair as PairMake, Resample as ResampleMake, Filter as FilterMake};
+ghost use Rattle.ny_filters.specs.Filtering.{IsFilter};
+ghost use Rattle.ny_heap.specs.Tasks.{IsTask, input_of_sound, inputs_of_task, BeginsWork, IsGivenBack, IsReady, TakesLast, TakesSide, HasSide};
+
+use crate::make::Make;
+use crate::sound::{Sound, same_timing};
+use crate::work::Work;
+use ny_filters::{Filter, FilterUnit};
+use ny_kernels::Op;
+use ny_list::Cursor;
+use ny_num::{Sample, Timing};
+use ny_units::{AbsUnit, CopyUnit, Input, LeafUnit, PairUnit, ResampleUnit};
+use std::alloc::Global;
+
+/// What a unit is to compute.
+#[derive(Drop)]
+pub(crate) enum Task {
+    Made(Make),
+    Channel,
+}
+
+// A sound as a unit's input: as far as it is heard, or 0 where it has no sample.
+fn input_of(sound: Sound) -> Input
+    ensures { result ≡ input_of_sound sound }
+{
+    let Sound { timing, reader } = sound;
+    match reader {
+        None => Input::Number(Sample::ZERO),
+        Some(mut cursor) => {
+            cursor.see(timing.len);
+            Input::List {
+                cursor,
+                start: timing.start,
+            }
+        }
+    }
+}
+
+// The last of these sounds as an input. It is taken from them.
+fn last_input(sounds: &mut Vec<Sound>) -> Input
+    requires { 0 < length sounds.old.items }
+    ensures { TakesLast sounds.old.items sounds.new.items result }
+{
+    input_of(sounds.pop().unwrap())
+}
+
+// The cursor of the last of these sounds, which has one. It is taken from them.
+fn last_cursor(sounds: &mut Vec<Sound>) -> Cursor
+    requires one { length sounds.old.items ≡ 1 }
+    requires reads { All (λ s. IsSome s.reader) sounds.old.items }
+    ensures { IsGivenBack sounds.old.items result }
+{
+    let Sound { timing, reader } = sounds.pop().unwrap();
+    let mut cursor = reader.unwrap();
+    cursor.see(timing.len);
+    cursor
+}
+
+// A side of an operation: a given sample, or the last of these sounds.
+fn side_of(given: &Option<Sample>, sounds: &mut Vec<Sound>) -> Input
+    requires { HasSide given.now sounds.old.items }
+    ensures { TakesSide given.now sounds.old.items sounds.new.items result }
+{
+    match given {
+        Some(value) => Input::Number(*value),
+        None => last_input(sounds),
+    }
+}
+
+// An operation over these sounds.
+fn begin_pair(
+    op: Op,
+    left: Option<Sample>,
+    right: Option<Sample>,
+    mut sounds: Vec<Sound>,
+    timing: &Timing,
+) -> Work
+    requires count { length sounds.items ≡ inputs_of_task (MadeTask (PairMake op left right)) }
+    ensures { BeginsWork (MadeTask (PairMake op left right)) sounds.items timing.now result }
+{
+    let second = side_of(&right, &mut sounds);
+    let first = side_of(&left, &mut sounds);
+    Work::Pair(PairUnit::of(op, first, second, timing.start), left, right)
+}
+
+// A filter of the last of these sounds, from the index `start` on.
+fn begin_filter(
+    alloc: Global,
+    f: Filter,
+    mut sounds: Vec<Sound>,
+    timing: &Timing,
+) -> Result<Work, Cursor>
+    requires count { length sounds.items ≡ 1 }
+    requires filter { IsFilter f }
+    requires ready { IsReady (MadeTask (FilterMake f)) sounds.items timing.now }
+    ensures begins { IfOk result (BeginsWork (MadeTask (FilterMake f)) sounds.items timing.now) }
+    ensures given_back { IfErr result (IsGivenBack sounds.items) }
+{
+    let cursor = last_cursor(&mut sounds);
+    let unit = FilterUnit::of(alloc, f, cursor)?;
+    Ok(Work::Filter(unit, timing.start))
+}
+
+// The last of these sounds, brought to another rate.
+fn begin_resampling(mut sounds: Vec<Sound>, timing: &Timing) -> Work
+    requires count { length sounds.items ≡ 1 }
+    requires ready { IsReady (MadeTask ResampleMake) sounds.items timing.now }
+    ensures { BeginsWork (MadeTask ResampleMake) sounds.items timing.now result }
+{
+    let from = same_timing(&sounds[0].timing);
+    Work::Resample(ResampleUnit::of(last_input(&mut sounds), from, same_timing(timing)))
+}
+
+// How what is made begins.
+fn begin_make(
+    alloc: Global,
+    make: Make,
+    mut sounds: Vec<Sound>,
+    timing: &Timing,
+) -> Result<Work, Cursor>
+    requires count { length sounds.items ≡ inputs_of_task (MadeTask make) }
+    requires task { (len : ℕ) × IsTask (MadeTask make) len }
+    requires ready { IsReady (MadeTask make) sounds.items timing.now }
+    ensures begins { IfOk result (BeginsWork (MadeTask make) sounds.items timing.now) }
+    ensures given_back { IfErr result (IsGivenBack sounds.items) }
+{
+    match make {
+        Make::Leaf(leaf) => Ok(Work::Leaf(LeafUnit::of(leaf))),
+        Make::Pair(op, left, right) => Ok(begin_pair(op, left, right, sounds, timing)),
+        Make::Abs => Ok(Work::Abs(AbsUnit::of(last_input(&mut sounds)))),
+        Make::Resample => Ok(begin_resampling(sounds, timing)),
+        Make::Filter(f) => begin_filter(alloc, f, sounds, timing),
+    }
+}
+
+/// How a task over these sounds begins, for a unit that is heard as `timing` says.
+///
+/// # Errors
+/// The cursor of the only sound, where memory for a comb is missing.
+pub(crate) fn begin_work(
+    alloc: Global,
+    task: Task,
+    mut sounds: Vec<Sound>,
+    timing: &Timing,
+) -> Result<Work, Cursor>
+    requires count { length sounds.items ≡ inputs_of_task task }
+    requires task { (len : ℕ) × IsTask task len }
+    requires ready { IsReady task sounds.items timing.now }
+    ensures begins { IfOk result (BeginsWork task sounds.items timing.now) }
+    ensures given_back { IfErr result (IsGivenBack sounds.items) }
+{
+    match task {
+        Task::Made(make) => begin_make(alloc, make, sounds, timing),
+        Task::Channel => Ok(Work::Channel(CopyUnit::of(last_input(&mut sounds), timing.start))),
+    }
+}
