@@ -6,8 +6,8 @@ use Rattle.ny_list.specs.Laws.{StoreLaws}
 use Rattle.ny_units.specs.Inputs.{IsReader}
 use Rattle.ny_heap.specs.declared.table.Unit.{Unit as UnitData}
 use Rattle.ny_heap.specs.declared.table.Table.{Table}
-use Rattle.ny_heap.specs.declared.table.Next.{Next}
-use Rattle.ny_heap.specs.declared.table.Next.TheVariants.{Stay, Drop, Pass}
+use Rattle.ny_heap.specs.declared.settling.Next.{Next}
+use Rattle.ny_heap.specs.declared.settling.Next.TheVariants.{Stay, Drop, Pass}
 use Rattle.ny_heap.specs.declared.work.Work.{Work}
 use Rattle.ny_heap.specs.Heap.{Reader, blocks_of, taken_after}
 use Rattle.ny_heap.specs.Work.{kind_of, inputs_in, source_at, cursor_at, memory_in, ShowsAll, work_value, MovesOn, Recalls}

@@ -5,12 +5,15 @@ ghost use Rattle.ny_heap.specs.Means.{Parts, Whole, Means, KeepsMeaning, sound_i
 ghost use Rattle.ny_heap.specs.Reach.{HeapLaws, IsTrimmed};
 ghost use Rattle.ny_heap.specs.Steps.{IsHeldSound, without_sound, without_sounds, AreHeld, IsMadeOf, IsMixOf, sounds_of, waiting_of, kind_of_mix, Makes, MakesMeaning, want_of, IsSettledUnit, Fills, Passes, run_of, computed_in, advanced};
 
+use crate::adding::make_unit;
+use crate::filling::fill_block;
 use crate::make::Make;
+use crate::reading::read_next;
+use crate::removal::drop_reader;
 use crate::sound::{Sound, begin, list_in, same_timing};
-use crate::table::{
-    Table, drop_reader, fill_block, first_lacking, is_unfilled, make_unit, read_next,
-};
+use crate::table::{Table, is_unfilled};
 use crate::task::Task;
+use crate::wants::first_lacking;
 use ny_list::Store;
 use ny_num::{Sample, Timing};
 use ny_pool::SlotId;

@@ -5,11 +5,17 @@
 //! rules stand in `docs/DEFINITIONS.md`, "Blocks" and "The heap".
 #![tactic(auto)]
 
+mod adding;
+mod filling;
 mod heap;
 mod make;
+mod reading;
+mod removal;
+mod settling;
 mod sound;
 mod table;
 mod task;
+mod wants;
 mod work;
 
 pub use heap::{FillFault, Heap, UnitId};

@@ -1,0 +1,111 @@
+ghost use Rattle.std.specs.Prelude.{◌≡◌, ◌+◌, ◌^◌, ◌<◌, ◌≤◌, map, length, IfOk, OnOk};
+ghost use Rattle.ny_list.specs.Laws.{StoreLaws};
+ghost use Rattle.ny_heap.specs.Table.{IsTable};
+ghost use Rattle.ny_heap.specs.Making.{More, Grows, HasRoom, Places, first_cursor, IsMade};
+ghost use Rattle.ny_heap.specs.Tasks.{IsTask, IsReady, kind_of_task, inputs_of_task};
+
+use crate::removal::{drop_reader, drop_sounds};
+use crate::sound::{Sound, same_timing};
+use crate::table::{Table, Unit};
+use crate::task::{Task, begin_work};
+use crate::work::Work;
+use ny_list::Cursor;
+use ny_num::Timing;
+use std::alloc::{AllocError, Global};
+
+// When these sounds are heard.
+fn timings_of(alloc: Global, sounds: &[Sound]) -> Result<Vec<Timing>, AllocError>
+    ensures { IfOk result (λ v. v.items ≡ map (λ s. s.timing) sounds.now) }
+{
+    sounds
+        .iter()
+        .map(|sound| same_timing(&sound.timing))
+        .collect(alloc)
+}
+
+// At least so many places for units.
+fn grow(units: &mut Vec<Option<Unit>>, places: usize) -> Result<(), AllocError>
+    ensures more { More units.old.items units.new.items }
+    ensures places { OnOk result (places ≤ length units.new.items) }
+{
+    while units.len() < places {
+        units.push(None)?;
+    }
+    Ok(())
+}
+
+// Room for one more unit.
+fn make_room(table: &mut Table, alloc: Global) -> Result<(), AllocError>
+    requires { StoreLaws table.old.store }
+    ensures grows { Grows table.old table.new }
+    ensures room { OnOk result (HasRoom table.new) }
+{
+    table.store.reserve_list(alloc)?;
+    let places = table.store.numbers() as usize;
+    grow(&mut table.units, places)
+}
+
+// Room for one more unit over these sounds. Answers when they are heard.
+fn prepare(table: &mut Table, alloc: Global, sounds: &[Sound]) -> Result<Vec<Timing>, AllocError>
+    requires { StoreLaws table.old.store }
+    ensures grows { Grows table.old table.new }
+    ensures room { OnOk result (HasRoom table.new) }
+    ensures timings { IfOk result (λ v. v.items ≡ map (λ s. s.timing) sounds.now) }
+{
+    let timings = timings_of(alloc, sounds)?;
+    make_room(table, alloc)?;
+    Ok(timings)
+}
+
+// Adds a unit that does this work. Answers a cursor at its beginning.
+fn add_unit(table: &mut Table, inputs: Vec<Timing>, work: Work, timing: Timing) -> Cursor
+    requires { HasRoom table.old }
+    ensures places { Places table.old table.new result.list work timing inputs.items }
+    ensures cursor { result ≡ first_cursor result.list timing.len }
+{
+    let (list, cursor) = table.store.new_list(timing.len, 0);
+    let n = list.number();
+    table.units[n as usize] = Some(Unit {
+        work,
+        timing,
+        inputs,
+        list,
+    });
+    cursor
+}
+
+/// Adds a unit for this task over these sounds, where it has a sample. Where it has none there is
+/// no unit, and the sounds are dropped, as they are where memory is missing. Answers a cursor at its
+/// beginning.
+pub(crate) fn make_unit(
+    table: &mut Table,
+    alloc: Global,
+    task: Task,
+    sounds: Vec<Sound>,
+    timing: Timing,
+) -> Result<Option<Cursor>, AllocError>
+    requires table { IsTable table.old (map (λ s. s.reader) sounds.items) }
+    requires early { timing.start + timing.len < 2 ^ 32 }
+    requires count { length sounds.items ≡ inputs_of_task task }
+    requires task { 0 < timing.len → IsTask task timing.len }
+    requires ready { 0 < timing.len → IsReady task sounds.items timing }
+    ensures { IsMade table.old table.new (kind_of_task task) timing sounds.items result }
+{
+    if timing.len == 0 {
+        drop_sounds(table, sounds);
+        return Ok(None);
+    }
+    match prepare(table, alloc, sounds.as_slice()) {
+        Err(e) => {
+            drop_sounds(table, sounds);
+            Err(e)
+        }
+        Ok(inputs) => match begin_work(alloc, task, sounds, &timing) {
+            Ok(work) => Ok(Some(add_unit(table, inputs, work, timing))),
+            Err(cursor) => {
+                drop_reader(table, cursor);
+                Err(AllocError)
+            }
+        },
+    }
+}

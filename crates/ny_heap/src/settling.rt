@@ -1,0 +1,108 @@
+ghost use Rattle.std.specs.Prelude.{◌≡◌, ◌+◌, []};
+ghost use Rattle.std.specs.Option.{ForSome};
+ghost use Rattle.ny_units.specs.Inputs.{IsReader};
+ghost use Rattle.ny_heap.specs.Work.{inputs_in, source_at, cursor_at, without_cursor_at, with_cursor_at};
+ghost use Rattle.ny_heap.specs.declared.settling.Next.TheVariants.{Drop, Pass};
+ghost use Rattle.ny_heap.specs.Table.{unit_at, IsTable, IsRead};
+ghost use Rattle.ny_heap.specs.Filling.{Reworks, HasInput, IsNextOf, Settling, Settles};
+
+use crate::removal::drop_reader;
+use crate::table::{Table, computed, inputs_of, is_unfilled, unit_of};
+use ny_list::Cursor;
+
+/// What is to be done about an input once its unit has one block more.
+pub(crate) enum Next {
+    Stay,
+    /// To drop its cursor.
+    Drop,
+    /// To pass so many samples.
+    Pass(u32),
+}
+
+// What is to be done about an input.
+fn next_of(table: &Table, u: u32, i: u32) -> Next
+    requires settling { Settling table.now u i }
+    requires inside { HasInput table.now u i }
+    ensures { ForSome (unit_at table.now u) (λ x. IsNextOf table.now u i x result) }
+{
+    let work = &unit_of(table, u).work;
+    let Some(c) = work.cursor(i) else {
+        return Next::Stay;
+    };
+    let need = work.need(i, computed(table, u));
+    if !is_unfilled(table, u) || need >= c.visible() {
+        return Next::Drop;
+    }
+    Next::Pass(need - table.store.position(c))
+}
+
+// Takes the cursor of an input.
+fn take_input(table: &mut Table, u: u32, i: u32) -> Option<Cursor>
+    requires inside { HasInput table.old u i }
+    ensures cursor { ForSome (unit_at table.old u) (λ x. result ≡ cursor_at x.work i) }
+    ensures taken { ForSome (unit_at table.old u) (λ x. Reworks table.old table.new u x (without_cursor_at x.work i)) }
+{
+    let unit = table.units[u as usize].as_mut().unwrap();
+    unit.work.take_cursor(i)
+}
+
+// Puts the cursor of an input back.
+fn put_input(table: &mut Table, u: u32, i: u32, c: Cursor)
+    requires inside { HasInput table.old u i }
+    requires reader { ForSome (unit_at table.old u) (λ x. IsReader (source_at x.work i)) }
+    ensures { ForSome (unit_at table.old u) (λ x. Reworks table.old table.new u x (with_cursor_at x.work i c)) }
+{
+    let unit = table.units[u as usize].as_mut().unwrap();
+    unit.work.put_cursor(i, c);
+}
+
+// An input has nothing more to read.
+fn forget(table: &mut Table, u: u32, i: u32)
+    requires settling { Settling table.old u i }
+    requires inside { HasInput table.old u i }
+    requires drops { ForSome (unit_at table.old u) (λ x. IsNextOf table.old u i x Drop) }
+    ensures settling { Settling table.new u (i + 1) }
+    ensures settles { Settles table.old table.new u i (i + 1) }
+{
+    let c = take_input(table, u, i).unwrap();
+    drop_reader(table, c);
+}
+
+// An input passes so many samples.
+fn pass(table: &mut Table, u: u32, i: u32, n: u32)
+    requires settling { Settling table.old u i }
+    requires inside { HasInput table.old u i }
+    requires passes { ForSome (unit_at table.old u) (λ x. IsNextOf table.old u i x (Pass n)) }
+    ensures settling { Settling table.new u (i + 1) }
+    ensures settles { Settles table.old table.new u i (i + 1) }
+{
+    let mut c = take_input(table, u, i).unwrap();
+    table.store.advance(&mut c, n);
+    put_input(table, u, i, c);
+}
+
+// Gives back what an input has passed. Where its unit has done with it, its cursor is dropped.
+fn settle(table: &mut Table, u: u32, i: u32)
+    requires settling { Settling table.old u i }
+    requires inside { HasInput table.old u i }
+    ensures settling { Settling table.new u (i + 1) }
+    ensures settles { Settles table.old table.new u i (i + 1) }
+{
+    match next_of(table, u, i) {
+        Next::Stay => {}
+        Next::Drop => forget(table, u, i),
+        Next::Pass(n) => pass(table, u, i, n),
+    }
+}
+
+/// Gives back what a unit's inputs have passed, and drops the cursors of those with which it has done.
+pub(crate) fn settle_all(table: &mut Table, u: u32)
+    requires settling { Settling table.old u 0 }
+    ensures settles { ForSome (unit_at table.old u) (λ x. Settles table.old table.new u 0 (inputs_in x.work)) }
+    ensures table { IsTable table.new [] }
+    ensures read { IsRead table.new }
+{
+    for i in 0..inputs_of(table, u) {
+        settle(table, u, i);
+    }
+}
