@@ -14,3 +14,5 @@ pub mod Shares
 pub mod Weights
 pub mod RateLaws
 pub mod Octaves
+pub mod FilterLaws
+pub mod KnotLaws

@@ -6,4 +6,5 @@ pub mod Leaves
 pub mod Pointwise
 pub mod Resampling
 pub mod Filters
+pub mod ByIndex
 pub mod Mix

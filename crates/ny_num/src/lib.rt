@@ -5,6 +5,7 @@
 
 mod decimal;
 mod fix;
+mod laws;
 pub mod pitch;
 mod rate;
 mod sample;
@@ -13,6 +14,7 @@ mod timing;
 
 pub use decimal::{NumFault, push_decimal, read_decimal, text_reads_back, write_decimal};
 pub use fix::Fix;
+pub use laws::{envelope_law, filter_laws};
 pub use rate::Rate;
 pub use sample::Sample;
 pub use ticks::{Ticks, index, tick_of_index, ticks_of};

@@ -6,5 +6,3 @@ pub mod PartTimings
 pub mod FilterLengths
 pub mod Delays
 pub mod Rates
-pub mod FilterLaws
-pub mod KnotLaws

@@ -1,4 +1,3 @@
-pub mod ByIndex
 pub mod Operations
 pub mod Parts
 pub mod Tables

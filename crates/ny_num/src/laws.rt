@@ -1,7 +1,7 @@
 ghost use Rattle.std.specs.Prelude.{◌+◌, List, ◌≡◌, ℕ, ◌≤◌, ◌<◌, length, ℤ};
 ghost use Rattle.ny_num.specs.Sound.{Sound};
 ghost use Rattle.ny_num.specs.Filters.{Coefficients, one_pole_value, one_pole, biquad_value, biquad, comb_value, comb};
-ghost use Rattle.ny_strict.specs.ByIndex.{NeverFall, item_at, item_before, knot_at, recent_at};
+ghost use Rattle.ny_num.specs.ByIndex.{NeverFall, item_at, item_before, knot_at, recent_at};
 ghost use Rattle.ny_num.specs.Leaves.{envelope_value, on_line};
 
 /// The laws of filters by index: each output follows from the input at its place and from the inputs
@@ -17,5 +17,5 @@ pub fn filter_laws()
 /// between the two.
 #[tactic(auto, using(crate::proofs::KnotLaws::between_knots))]
 pub fn envelope_law()
-    ensures { (knots : List (ℕ × ℤ)) (i m : ℕ) → NeverFall knots → i + 1 < length knots → (knot_at knots i).0 ≤ m → m < (knot_at knots (i + 1)).0 → envelope_value knots m ≡ on_line (knot_at knots i) (knot_at knots (i + 1)) m }
+    ensures between { (knots : List (ℕ × ℤ)) (i m : ℕ) → NeverFall knots → i + 1 < length knots → (knot_at knots i).0 ≤ m → m < (knot_at knots (i + 1)).0 → envelope_value knots m ≡ on_line (knot_at knots i) (knot_at knots (i + 1)) m }
 {}

@@ -4,7 +4,7 @@ use Rattle.std.proofs.lemmas.Bool.{cases_lt}
 use Rattle.std.proofs.lemmas.Bool.Decides.{nat_tests}
 use Rattle.ny_num.specs.Sound.{Sound}
 use Rattle.ny_num.specs.Filters.{one_pole, one_pole_value, one_pole_after, Coefficients, Recent, biquad, biquad_value, biquad_next, biquad_after, at_rest, comb, comb_value, comb_after, delayed}
-use Rattle.ny_strict.specs.ByIndex.{item_at, item_before, recent_at}
+use Rattle.ny_num.specs.ByIndex.{item_at, item_before, recent_at}
 
 item_later : (ys : List ℤ) (k n : ℕ) → k ≤ n → item_before k ys n ≡ item_at ys (n - k)
 item_later ys k n h = grind (arith, nat_tests)

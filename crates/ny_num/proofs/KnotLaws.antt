@@ -2,7 +2,7 @@
 use Rattle.std.proofs.Common.{◌≡◌, ℕ, zero, suc, ◌+◌, ◌<◌, ◌≤◌, cond, List, [], ◌∷◌, length, ℤ, sym, ap, subst, ◌∙◌, arith}
 use Rattle.std.proofs.lemmas.Bool.{lt-leb, le-leb}
 use Rattle.ny_num.specs.Leaves.{on_line, envelope_from, envelope_value}
-use Rattle.ny_strict.specs.ByIndex.{knot_at, NeverFall}
+use Rattle.ny_num.specs.ByIndex.{knot_at, NeverFall}
 
 rest_rises : (knot : ℕ × ℤ) (knots : List (ℕ × ℤ)) → NeverFall (knot ∷ knots) → NeverFall knots
 rest_rises knot knots rises = λ j k le lt. rises (suc j) (suc k) (omega (arith, le)) (omega (arith, lt))
