@@ -4,12 +4,10 @@ pub mod PartAdded
 pub mod Places
 pub mod Points
 pub mod WholeDigits
-pub mod WorkedRows
 pub mod SoundTimings
 pub mod WrittenLists
 pub mod Quotients
 pub mod Lifted
-pub mod TimingBounds
 pub mod Shares
 pub mod Weights
 pub mod RateLaws

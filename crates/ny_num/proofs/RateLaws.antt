@@ -1,10 +1,9 @@
 -- A rate is known by its samples a second, and sounds keep theirs.
-use Rattle.std.proofs.Common.{arith, ◌≡◌, ℕ, ◌==◌, Bool, true, false, if◌then◌else◌, List, [], ◌∷◌, refl, sym, ap, ◌∙◌}
+use Rattle.std.proofs.Common.{arith, ◌≡◌, ℕ, ◌==◌, Bool, true, false, if◌then◌else◌, refl, sym, ap, ◌∙◌}
 use Rattle.std.proofs.lemmas.Bool.Decides.{nat_tests}
 use Rattle.ny_num.specs.Grid.{hz_of}
 use Rattle.ny_num.specs.Sound.{spanning}
 use Rattle.ny_num.specs.Resampling.{is_same_rate, other_rate_timing, resampled_timing}
-use Rattle.ny_num.specs.Mix.{mix_timing}
 use Rattle.ny_num.specs.declared.rate.Rate.{Rate}
 use Rattle.ny_num.specs.declared.rate.Rate.TheVariants.{R2205, R4410, R8000, R11025, R16000, R22050, R32000, R44100, R48000}
 use Rattle.ny_num.specs.declared.timing.Timing.{Timing}
@@ -49,8 +48,3 @@ resampled_timing-rate to t = by_rates (is_same_rate t.rate to) refl
     by_rates : (same : Bool) → is_same_rate t.rate to ≡ same → (if same then t else other_rate_timing to t).rate ≡ to
     by_rates true e = same_rate t.rate to e
     by_rates false e = refl
-
-pub mix_timing-rate : (r : Rate) (ts : List Timing) → (mix_timing r ts).rate ≡ r
-unfolding mix_timing spanning
-mix_timing-rate r [] = refl
-mix_timing-rate r (t ∷ ts) = refl

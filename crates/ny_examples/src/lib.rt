@@ -1,0 +1,6 @@
+//! Worked sounds.
+#![tactic(auto)]
+
+mod sounds;
+
+pub use sounds::{worked_leaves};

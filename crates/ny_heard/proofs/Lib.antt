@@ -1,2 +1,0 @@
-pub mod HeardLemmas
-pub mod PlayLemmas

@@ -1,7 +1,0 @@
-use Rattle.ny_heard.proofs.PlayLemmas.{moved_on}
-use Rattle.ny_heard.proofs.lists.pass.Goals as goal
-
-pub returns-clause-plays : goal.returns-clause-plays
-returns-clause-plays c =
-    let m = c.args.piece.now in
-    moved_on m.store c.advance.new.self m.list m.cursor c.advance.new.c c.args.n c.requires.plays c.requires.within c.advance.ensures.passed c.advance.ensures.moved c.advance.ensures.laws
