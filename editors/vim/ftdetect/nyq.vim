@@ -1,0 +1,2 @@
+" Pieces of nyq end in .sal.
+autocmd BufRead,BufNewFile *.sal setfiletype nyq
