@@ -1,0 +1,8 @@
+//! The program as a process: from the words that it is started with to its exit code.
+#![tactic(auto)]
+
+mod ended;
+mod start;
+
+pub use ended::exit_code;
+pub use start::start;
