@@ -17,12 +17,12 @@ pub struct Case<'a> {
 }
 
 /// Whether a line is no case: an empty one, or a remark.
-pub fn is_passed_over(line: &[u8]) -> bool {
+fn is_passed_over(line: &[u8]) -> bool {
     line.is_empty() || line == b"#".as_slice() || line.starts_with(b"# ")
 }
 
 /// The words of a command, with a single space between two.
-pub fn words_of(alloc: Global, command: &str) -> Result<Vec<String>, AllocError> {
+fn words_of(alloc: Global, command: &str) -> Result<Vec<String>, AllocError> {
     let mut words = Vec::new(alloc);
     for word in command.split(' ') {
         words.push(String::from_str(alloc, word)?)?;
@@ -61,4 +61,15 @@ impl<'a> Case<'a> {
         heading.push(b'\n')?;
         Ok(heading)
     }
+}
+
+/// The cases of a list, in order.
+pub fn cases_of(alloc: Global, list: &[u8]) -> io::Result<Vec<Case<'_>>> {
+    let mut cases = Vec::new(alloc);
+    for line in list.split(|byte| *byte == b'\n') {
+        if !is_passed_over(line) {
+            cases.push(Case::of(alloc, line)?)?;
+        }
+    }
+    Ok(cases)
 }

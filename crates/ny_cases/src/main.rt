@@ -1,15 +1,27 @@
-//! Runs the commands of two lists, and prints of each how it ended (`CASES.md`).
+//! Runs the commands of two lists, and prints what each did (`CASES.md`).
 #![tactic(auto)]
 
 mod case;
 mod checksum;
-mod disk;
-mod failing;
+mod files;
+mod hosts;
+mod short_calls;
 mod shown;
+#[cfg(test)]
+mod tests;
 
+use crate::case::cases_of;
+use crate::files::run_on_files;
+use crate::hosts::run_on_hosts;
 use std::{fs, io};
 
 fn main(rt: HostRuntime) -> io::Result<()> {
-    disk::run_list(&rt, &fs::read(&rt, "cases.txt")?)?;
-    failing::run_list(&rt, &fs::read(&rt, "hosts.txt")?)
+    let alloc = rt.alloc();
+    for case in &cases_of(alloc, &fs::read(&rt, "cases.txt")?)? {
+        run_on_files(&rt, case)?;
+    }
+    for case in &cases_of(alloc, &fs::read(&rt, "hosts.txt")?)? {
+        run_on_hosts(&rt, case)?;
+    }
+    Ok(())
 }

@@ -1,10 +1,13 @@
 ghost use Rattle.std.specs.Prelude.{◌≤◌};
 
-use crate::case::{Case, INPUT, is_passed_over};
+use crate::case::{Case, INPUT};
+use crate::files::print_run;
+use crate::short_calls::ShortCalls;
 use crate::shown::{file_shown, printed_shown};
-use ny_io::{Fails, MemHost};
+use ny_io::{Fails, MemHost, RealHost};
 use ny_top::run;
 use std::alloc::{AllocError, Global};
+use std::rt::Runtime;
 use std::{fmt, io};
 
 /// The most bytes of a created file with its name, and of what is printed.
@@ -12,7 +15,7 @@ const ROOM: usize = 1_048_576;
 
 /// A kind of call of a host.
 #[derive(Clone, Copy, Debug, PartialEq, Eq)]
-enum Call {
+pub enum Call {
     Open,
     Read,
     Create,
@@ -34,27 +37,20 @@ impl fmt::Display for Call {
 
 /// The call that is to fail: its kind, and its number among those of its kind, from 1.
 #[derive(Clone, Copy, Debug)]
-struct Failing {
-    call: Call,
-    number: u64,
+pub struct Failing {
+    pub call: Call,
+    pub number: u64,
 }
 
-/// Runs the cases of a list over hosts in memory, of which one call at most fails.
-pub fn run_list<R: Print + AllocGlobal>(rt: &R, list: &[u8]) -> io::Result<()> {
-    for line in list.split(|byte| *byte == b'\n') {
-        if !is_passed_over(line) {
-            run_case(rt, &Case::of(rt.alloc(), line)?)?;
-        }
-    }
-    Ok(())
-}
-
-/// Runs a case over hosts that move one byte at a time, a few, or many.
-fn run_case<R: Print + AllocGlobal>(rt: &R, case: &Case<'_>) -> io::Result<()> {
+/// Runs a case over hosts in memory, which move one byte with each call, a few, or many, and then over
+/// the real files by calls that move a few bytes.
+pub fn run_on_hosts<R: Runtime + AllocGlobal>(rt: &R, case: &Case<'_>) -> io::Result<()> {
     rt.write_all(&case.heading(rt.alloc())?)?;
     run_by_steps(rt, case, 1)?;
     run_by_steps(rt, case, 7)?;
-    run_by_steps(rt, case, 1_000_000)
+    run_by_steps(rt, case, 1_000_000)?;
+    rt.println("short calls")?;
+    print_run(rt, case, &mut RealHost::new(ShortCalls(rt.clone()?)))
 }
 
 /// Runs a case over hosts that move so many bytes with each call: one of which none fails, and those
@@ -80,7 +76,7 @@ fn run_by_steps<R: Print + AllocGlobal>(rt: &R, case: &Case<'_>, step: usize) ->
 }
 
 /// How a case ends over a host.
-fn run_shown(
+pub fn run_shown(
     alloc: Global,
     case: &Case<'_>,
     step: usize,
@@ -106,7 +102,7 @@ fn failing_shown(alloc: Global, failing: Option<Failing>) -> Result<String, Allo
 }
 
 /// A host in memory that has the text of a case.
-fn host_of(
+pub fn host_of(
     alloc: Global,
     case: &Case<'_>,
     step: usize,
