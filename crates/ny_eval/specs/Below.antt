@@ -1,14 +1,13 @@
 -- What a change of a heap leaves alone: all that stands higher than some height, and what that reads.
-use Rattle.std.specs.Prelude.{◌≡◌, ℕ, ◌+◌, ◌-◌, ◌<◌, ◌≤◌, ◌⊎◌, Option, Some, sum, sum_by, slice_index}
+use Rattle.std.specs.Prelude.{◌≡◌, ℕ, ◌+◌, ◌-◌, ◌<◌, ◌≤◌, ◌⊎◌, [], Option, Some, sum, sum_by, slice_index}
 use Rattle.std.specs.Option.{option_map_or}
 use Rattle.ny_heap.specs.Heap.{Reader, Node, HeapState, node_at, taken_after, computed_of}
 use Rattle.ny_heap.specs.Means.{KeepsMeaning}
 use Rattle.ny_heap.specs.Reach.{Uses, ReadOutside, HeapLaws}
-use Rattle.ny_heap.specs.Steps.{IsSettledUnit}
 
--- no part of any unit is due, and none is still to be attached
+-- no part of any unit is still to be attached, and so far none waits
 abbrev pub IsSettled : {B : Type 0} → HeapState B → Type 0
-IsSettled h = (v : ℕ) (x : Node _) → node_at h v ≡ Some x → IsSettledUnit x
+IsSettled h = (v : ℕ) (x : Node _) → node_at h v ≡ Some x → (x.pending ≡ 0) × (x.waiting ≡ [])
 
 -- ---- heights
 

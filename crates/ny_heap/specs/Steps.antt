@@ -1,13 +1,15 @@
 -- What the calls of a heap do.
-use Rattle.std.specs.Prelude.{◌≡◌, ◌≢◌, ℕ, ◌+◌, ◌-◌, ◌*◌, ◌/◌, ◌<◌, ◌≤◌, ◌^◌, min, max, Bool, true, false, nat_lt, if◌then◌else◌, List, [], ◌∷◌, ◌++◌, map, All, Option, None, Some, is_none, count_by, slice_index, slice_set, length, pos}
+use Rattle.std.specs.Prelude.{◌≡◌, ◌≢◌, ◌⊎◌, ℕ, ◌+◌, ◌-◌, ◌*◌, ◌/◌, ◌<◌, ◌≤◌, ◌^◌, min, max, Bool, true, false, nat_lt, if◌then◌else◌, List, [], ◌∷◌, ◌++◌, map, All, Option, None, Some, is_none, count_by, slice_index, slice_set, length, pos}
 use Rattle.std.specs.Option.{option_map, option_map_or}
 use Rattle.ny_num.specs.Sound as sounds
 use Rattle.ny_num.specs.Sound.{IsTiming, sum_timing}
+use Rattle.ny_num.specs.Grid.{index_at}
 use Rattle.ny_num.specs.Pointwise.{product_timing}
 use Rattle.ny_num.specs.Resampling.{other_rate_timing}
 use Rattle.ny_kernels.specs.declared.operation.Op.{Op}
 use Rattle.ny_kernels.specs.declared.operation.Op.TheVariants.{Add, Sub, Mul, Max, Min}
 use Rattle.ny_num.specs.declared.timing.Timing.{Timing}
+use Rattle.ny_num.specs.declared.rate.Rate.{Rate}
 use Rattle.ny_units.specs.Playing.{IsLeaf, Reaches}
 use Rattle.ny_filters.specs.Filtering.{IsFilter, silent}
 use Rattle.ny_heap.specs.declared.make.Make.{Make}
@@ -179,14 +181,14 @@ pub record Makes {B : Type 0} (old new : HeapState B) (kind : Kind) (t : Timing)
   pub unit : 0 < t.len → AddsNode (without_sounds old spent) new node (new_node kind t inputs waiting)
 
 -- what the new unit hears
-abbrev pub made_inputs : {B : Type 0} → Parts B → Whole → List Sound → List (Waiting B) → List (Option sounds.Sound)
-made_inputs part w inputs waiting =
-    map (λ s. input_sound w.samples (reader_of s)) inputs ++ map Some (parts_from part w.samples (last_stop_of 0 inputs) waiting)
+abbrev pub made_inputs : {B : Type 0} → Parts B → Whole → Rate → List Sound → List (Waiting B) → List (Option sounds.Sound)
+made_inputs part w r inputs waiting =
+    map (λ s. input_sound w.samples (reader_of s)) inputs ++ map Some (parts_from part w.samples r (last_stop_of 0 inputs) waiting)
 
 -- what the new list holds, where the old ones hold what they should
 abbrev pub MakesMeaning : {B : Type 0} → HeapState B → HeapState B → Kind → Timing → List Sound → List (Waiting B) → Sound → Type 0
 MakesMeaning {B} old new kind t inputs waiting s =
-    (part : Parts B) (w : Whole) → Means part old w → Means part new (option_map_or (λ n. with_samples w n (whole_list kind t (first_memory kind inputs) (made_inputs part w inputs waiting))) (list_of s) w)
+    (part : Parts B) (w : Whole) → Means part old w → Means part new (option_map_or (λ n. with_samples w n (whole_list kind t (first_memory kind inputs) (made_inputs part w t.rate inputs waiting))) (list_of s) w)
 
 -- ---- filling
 
@@ -225,9 +227,10 @@ pub record Fills {B : Type 0} (old new : HeapState B) (u : ℕ) : Type 0 where
   pub filled : FillsUnit old between u
   pub trimmed : IsTrimmed between new
 
--- no part of the unit is still to be attached, and none is due. (Parts that are due come with mixes of several parts.)
-abbrev pub IsSettledUnit : {B : Type 0} → Node B → Type 0
-IsSettledUnit x = (x.pending ≡ 0) × (x.waiting ≡ [])
+-- no part of the unit is still to be attached, and none is due: the first that waits follows a stop whose place does not
+-- lie in the next block
+abbrev pub IsSettledUnit : {B : Type 0} → ℕ → Node B → Type 0
+IsSettledUnit block x = (x.pending ≡ 0) × ((x.waiting ≡ []) ⊎ (x.timing.start + (x.filled + 1) * block ≤ index_at x.last_stop x.timing.rate))
 
 -- ---- what a unit wants
 

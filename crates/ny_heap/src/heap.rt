@@ -231,7 +231,7 @@ impl<B> Heap<B> {
     pub fn fill(&mut self, u: UnitId) -> Result<(), FillFault>
         requires open { IsSomeAnd (node_at self.old u.0.0) (λ x. IsTrue (is_open self.old.block x)) }
         requires ready { want_of self.old u.0.0 ≡ None }
-        requires settled { IsSomeAnd (node_at self.old u.0.0) IsSettledUnit }
+        requires settled { IsSomeAnd (node_at self.old u.0.0) (λ x. IsSettledUnit self.old.block x) }
         ensures laws { HeapLaws self.new }
         ensures full { IsTrue (is_err result) ↔ (free_of self.old ≡ 0) }
         ensures nothing { OnErr result (self.new ≡ self.old) }

@@ -1,5 +1,6 @@
-use Rattle.std.proofs.Common.{rules, suc, ◌++◌, ◌∷◌, [], refl, sym, subst, ◌∙◌, IsTrue, arith}
+use Rattle.std.proofs.Common.{rules, suc, ◌++◌, ◌∷◌, [], refl, sym, subst, ◌∙◌, IsTrue, inl, arith}
 use Rattle.ny_heap.specs.Heap.{is_open}
+use Rattle.ny_heap.specs.Steps.{IsSettledUnit}
 use Rattle.ny_eval.specs.Below.{ComesFrom, IsSettled, Below}
 use Rattle.ny_eval.proofs.BelowLemmas.{some_and, and_some}
 use Rattle.ny_eval.proofs.DriveLemmas.{comes_more, fill_comes, next_open, next_ranked, open_still, stops_below, stops_here, stops_apart, fills_then, wants_none, wants_more, wants_less, settled_on, fill_drives, at_ok, at_err, on_err, either}
@@ -58,6 +59,13 @@ pub fill-requires-clause-open : goal.fill-requires-clause-open
 fill-requires-clause-open g t c =
     let x = some_and _ _ c.requires.open in
     and_some _ (λ x. IsTrue (is_open c.loop-v.heap.block x)) x.0 (c.loop-v.invariant.0.same ∙ x.1) (open_still _ _ _ _ x.0 x.1 c.loop-v.invariant.0 x.2)
+
+pub fill-requires-clause-settled : goal.fill-requires-clause-settled
+fill-requires-clause-settled g t c =
+    let x = some_and _ _ c.requires.open in
+    let here = c.loop-v.invariant.0.same ∙ x.1 in
+    let none = c.loop-v.invariant.0.settled _ x.0 here in
+    and_some _ (λ x. IsSettledUnit c.loop-v.heap.block x) x.0 here (none.0, inl none.1)
 
 pub returns-clause-settled : goal.returns-clause-settled
 returns-clause-settled g t c =
