@@ -247,7 +247,7 @@ term_writing (Term-F.Repeat o x n e) = record {
   write = λ names fs t. let w = e.write (kept_names (is_in_turn o) e.uses) fs t in put (repeat_node o x n w.id) names w.table;
   uses = λ bound found. e.uses (bound ++ x ∷ []) found;
 }
-term_writing (Term-F.Nameless place e) = record { write = λ names fs t. e.write names fs t; uses = λ bound found. e.uses bound found }
+term_writing (Term-F.Nameless e) = record { write = λ names fs t. e.write names fs t; uses = λ bound found. e.uses bound found }
 term_writing (Term-F.Warp vs e) = record {
   write = λ names fs t. let w = e.write [] fs t in put (warp_node vs w.id) names w.table;
   uses = λ bound found. e.uses bound found;

@@ -1,14 +1,16 @@
-ghost use Rattle.std.specs.Prelude.{◌≡◌, ◌<◌, ◌≤◌, ◌^◌, length, IfOk, IfErr, Some, None};
+ghost use Rattle.std.specs.Prelude.{◌≡◌, ◌<◌, ◌≤◌, ◌^◌, nat_lt, false, length, IfOk, IfErr, Some, None};
 ghost use Rattle.ny_syntax.specs.Sizes.{tree_size};
 ghost use Rattle.ny_kinds.specs.Whole.{text_kind, channels_in};
+ghost use Rattle.ny_kinds.specs.declared.kind.Unjudged.TheVariants as unjudged;
+ghost use Rattle.ny_measures.specs.Weight.{text_weight};
 ghost use Rattle.ny_resolve.specs.Faults.{earliest_after};
 ghost use Rattle.ny_resolve.specs.Declarations.{tree_read};
 ghost use Rattle.ny_resolve.specs.Sizes.{text_size};
-ghost use Rattle.ny_check.specs.Acceptance.{kind_faults, judged_faults, fault_of, program_in, program_with, IsRefusal, IsRefusalOr};
+ghost use Rattle.ny_check.specs.Acceptance.{greatest_weight, kind_faults, judged_faults, fault_of, program_in, program_with, IsRefusal, IsRefusalOr};
 
 use crate::program::Program;
 use crate::write::program;
-use ny_kinds::{channels, text_kind};
+use ny_kinds::{Unjudged, channels, text_kind};
 use ny_measures::{text_depth, text_weight};
 use ny_resolve::{CheckWhy, Fault, ReadTree, noted, noted_if, read_tree};
 use ny_syntax::Tree;
@@ -34,6 +36,17 @@ impl From<AllocError> for CheckFault {
     }
 }
 
+impl From<Unjudged> for CheckFault {
+    ghost use Rattle.std.specs.Prelude.{◌≡◌};
+    ghost use Rattle.ny_check.specs.declared.accept.CheckFault.TheVariants.{OutOfMemory};
+
+    ghost from_gives = { λ e s. s ≡ OutOfMemory };
+
+    fn from(_error: Unjudged) -> CheckFault {
+        CheckFault::OutOfMemory
+    }
+}
+
 #[tactic(auto, using(ny_resolve::proofs::Earliest::told))]
 fn kind_noted(at: Option<u32>, first: Option<Fault>) -> Option<Fault>
     ensures { result ≡ earliest_after first (kind_faults at) }
@@ -48,6 +61,10 @@ const GREATEST_DEPTH: u64 = 256;
 
 const GREATEST_WEIGHT: u64 = 1_000_000;
 
+/// The kinds of a text that is too heavy may take more steps than can be waited for. No more of its expressions than these
+/// are judged.
+const GREATEST_JUDGED: u64 = 4_000_000;
+
 /// A text's first fault, and how many channels it plays.
 #[derive(Clone, Copy, Debug, PartialEq, Eq)]
 struct Verdict {
@@ -55,18 +72,20 @@ struct Verdict {
     channels: u32,
 }
 
-/// The first fault of a text that was read.
+/// The first fault of a text that was read. A text within the weight is judged whole.
 #[tactic(auto, using(ny_resolve::proofs::Earliest::told))]
-fn judge(alloc: Global, read: &ReadTree, play_at: u32) -> Result<Verdict, AllocError>
+fn judge(alloc: Global, read: &ReadTree, play_at: u32) -> Result<Verdict, Unjudged>
     requires { length read.now.declared < 2 ^ 32 }
     ensures fault { IfOk result (λ j. j.fault ≡ earliest_after read.now.first (judged_faults read.now.declared read.now.play play_at)) }
     ensures channels { IfOk result (λ j. j.channels ≡ channels_in (text_kind read.now.declared read.now.play).kind) }
     ensures few { IfOk result (λ j. (1 ≤ j.channels) × (j.channels ≤ 8)) }
+    ensures whole { nat_lt greatest_weight (text_weight read.now.declared read.now.play) ≡ false → IfErr result (λ why. why ≡ unjudged.OutOfMemory) }
 {
     let declared = read.declared.as_slice();
-    let found = text_kind(alloc, declared, &read.play)?;
-    let deep = GREATEST_DEPTH < text_depth(alloc, declared, &read.play)?;
     let heavy = GREATEST_WEIGHT < text_weight(alloc, declared, &read.play)?;
+    let most = if heavy { Some(GREATEST_JUDGED) } else { None };
+    let found = text_kind(alloc, declared, &read.play, most)?;
+    let deep = GREATEST_DEPTH < text_depth(alloc, declared, &read.play)?;
     let first = kind_noted(found.fault, read.first);
     let first = noted_if(deep, CheckWhy::TooDeep, play_at, first);
     Ok(Verdict {

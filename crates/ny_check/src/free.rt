@@ -54,7 +54,7 @@ fn add_uses(
             bound.leave(outer);
             Ok(())
         }
-        Term::Nameless(_, part) => Ok(add_uses(bound, found, part.get())?),
+        Term::Nameless(part) => Ok(add_uses(bound, found, part.get())?),
         Term::Warp(_, part) => Ok(add_uses(bound, found, part.get())?),
         Term::Rate(_, _, part) => Ok(add_uses(bound, found, part.get())?),
     }

@@ -97,7 +97,7 @@ fn write(
             let part = write(alloc, draft, part.get(), kept)?;
             Ok(draft.put(repeat_node(*order, *x, *count, part), names)?)
         }
-        Term::Nameless(_, part) => Ok(write(alloc, draft, part.get(), names)?),
+        Term::Nameless(part) => Ok(write(alloc, draft, part.get(), names)?),
         Term::Warp(literals, part) => {
             let part = write(alloc, draft, part.get(), Items::new(alloc))?;
             let node = warp_node(alloc, literals.as_slice(), part)?;

@@ -1,5 +1,5 @@
 -- Declarations in order, each seeing those before it.
-use Rattle.std.proofs.Common.{◌≡◌, ℕ, zero, suc, ◌+◌, ◌<◌, ◌≤◌, List, [], ◌∷◌, ◌++◌, length, get_or, take, refl, sym, ap, ◌∙◌, arith, inl, inr, None}
+use Rattle.std.proofs.Common.{◌≡◌, ℕ, zero, suc, ◌+◌, ◌<◌, ◌≤◌, List, [], ◌∷◌, ◌++◌, length, get_or, take, refl, sym, ap, ◌∙◌, arith, inl, inr, Option, None}
 use Rattle.std.specs.Prelude.{◌⊎◌}
 use Rattle.std.proofs.lemmas.List.{take_more, get_or_append_left, length-append}
 use Rattle.std.proofs.Math.Seq.{get_or-append_seam}
@@ -10,7 +10,7 @@ use Rattle.ny_kinds.specs.declared.kind.Kind.{Kind}
 use Rattle.ny_kinds.specs.declared.kind.Found.{Found}
 use Rattle.ny_kinds.specs.declared.kind.Stop.{Stop}
 use Rattle.ny_kinds.specs.declared.kind.Stop.TheVariants as stop
-use Rattle.ny_kinds.specs.Table.{IsEarlier}
+use Rattle.ny_kinds.specs.Table.{IsReason}
 use Rattle.ny_kinds.specs.Kinds.{Behavior, nothing, behaviors_after, seen, behavior, behavior_at, no_declared}
 
 behaviors_after-append : (known : List Behavior) (xs ys : List Declared) → behaviors_after known (xs ++ ys) ≡ behaviors_after (behaviors_after known xs) ys
@@ -63,8 +63,9 @@ pub behavior-past : (ds : List Declared) (here n : ℕ) (ks : List Kind) → her
 behavior-past ds here n ks h k = ap (λ (b : Behavior). b ks) (sym (seen-past ds here n h k))
 
 -- what is missing in a body that comes before comes before
-pub earlier-wider : (n m : ℕ) (s : Stop) → n < m → IsEarlier n s → IsEarlier m s
-earlier-wider n m (stop.Missing u) h k = let one : u.number < n = k in omega arith
-earlier-wider n m stop.OutOfMemory h k = k
+pub reason-wider : (most : Option ℕ) (n m : ℕ) (s : Stop) → n < m → IsReason most n s → IsReason most m s
+reason-wider most n m (stop.Missing u) h k = let one : u.number < n = k in omega arith
+reason-wider most n m stop.TooManyNodes h k = k
+reason-wider most n m stop.OutOfMemory h k = k
 
-pub ruleset of_declarations = (behavior-seen, behavior-past, earlier-wider)
+pub ruleset of_declarations = (behavior-seen, behavior-past, reason-wider)

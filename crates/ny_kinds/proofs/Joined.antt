@@ -9,11 +9,17 @@ use Rattle.ny_resolve.specs.declared.term.Part.{Part}
 use Rattle.ny_resolve.specs.declared.term.Bound.{Bound}
 use Rattle.ny_resolve.specs.declared.term.Declared.{Declared}
 use Rattle.ny_kinds.specs.declared.kind.Found.{Found}
+use Rattle.ny_kinds.specs.declared.kind.Judgement.{Judgement}
+use Rattle.ny_kinds.specs.declared.kind.Kind.TheVariants.{Number}
 use Rattle.ny_kinds.specs.declared.kind.Kind.{Kind}
 use Rattle.ny_resolve.specs.declared.term.NameId.{NameId}
-use Rattle.ny_resolve.specs.declared.term.Term.TheFolds.{fold_out-Bound}
+use Rattle.ny_resolve.specs.declared.term.Term.TheFolds.{fold_out-Bound, fold_out-Part, fold-roll-Term}
+use Rattle.ny_resolve.specs.declared.term.Term.TheOpen.{Term-F}
+use Rattle.ny_resolve.specs.declared.term.Term.TheVariants as term
+use Rattle.ny_resolve.specs.declared.term.Term.TheVariants.{rolls-Repeat}
+use Rattle.ny_resolve.specs.declared.builtin.Order.{Order}
 use Rattle.ny_kinds.specs.Whole.{value_fault, values_fault}
-use Rattle.ny_kinds.specs.Kinds.{Scope, Kinded, KindedBind, Formed, term_kind, bound_kind, part_kind, scope_of, Several, Several_binds, least, several, several_binds, kind_of, kind_of_bind, named_kind, no_declared}
+use Rattle.ny_kinds.specs.Kinds.{Scope, Kinded, KindedBind, Formed, term_kind, bound_kind, part_kind, scope_of, Several, Several_binds, least, several, several_binds, kind_of, kind_of_bind, named_kind, no_declared, judged, sound_row, with_value}
 
 pub least-none : (p : Option ℕ) → least p None ≡ p
 least-none None = refl
@@ -80,5 +86,17 @@ values-step ds i p p' v whole within found fault before =
     subst (λ (xs : List Declared). least p (values_fault ds i xs) ≡ whole) at before in
     let one : least p (least v rest) ≡ whole = subst (λ (w : Option ℕ). least p (least w rest) ≡ whole) (sym (found no_declared)) first in
     ap (λ (q : Option ℕ). least q rest) fault ∙ least-assoc p v rest ∙ one
+
+kind-Repeat : (e : Part) (o : Order) (x : NameId) (n : ℕ) (b : Part) (s : Scope) → e.term ≡ term.Repeat o x n b
+    → kind_of e s ≡ judged e.at (sound_row (kind_of b (with_value x (Some Number) s)).kind) (kind_of b (with_value x (Some Number) s)).fault
+kind-Repeat e o x n b s is = rw (fold_out-Part Formed KindedBind Kinded term_kind bound_kind part_kind e, is, ← rolls-Repeat o x n b, fold-roll-Term Formed KindedBind Kinded term_kind bound_kind part_kind (Term-F.Repeat o x n b))
+
+-- a repeat, of what was found of its part
+pub arm-Repeat : (e : Part) (o : Order) (x : NameId) (n : ℕ) (b : Part) (ds : List Declared) (here : ℕ) (vs vs' : List (NameId × Option Kind)) (f : Found) (j : Judgement) (r : Found)
+    → e.term ≡ term.Repeat o x n b → vs' ≡ vs ++ (x, Some Number) ∷ [] → f ≡ kind_of b (scope_of vs' ds here) → j ≡ sound_row f.kind → r ≡ judged e.at j f.fault → r ≡ kind_of e (scope_of vs ds here)
+arm-Repeat e o x n b ds here vs vs' f j r is bound found row result =
+    let inner : f ≡ kind_of b (with_value x (Some Number) (scope_of vs ds here)) = found ∙ ap (λ (ws : List (NameId × Option Kind)). kind_of b (scope_of ws ds here)) bound in
+    result ∙ ap (λ (k : Judgement). judged e.at k f.fault) row ∙ ap (λ (g : Found). judged e.at (sound_row g.kind) g.fault) inner
+    ∙ sym (kind-Repeat e o x n b (scope_of vs ds here) is)
 
 pub ruleset of_names = (kept_all, kept_more)

@@ -1,6 +1,6 @@
 -- What the table needs of its stack.
 use Rattle.std.proofs.Common.{◌≡◌, ℕ, suc, ◌+◌, ◌-◌, ◌*◌, ◌^◌, ◌<◌, ◌≤◌, min, List, [], ◌∷◌, ◌++◌, drop, length, get_or, All, refl, sym, ap, ◌∙◌, arith, subst, inl, inr}
-use Rattle.std.specs.Prelude.{zip, Bool, true, false, IsTrue, ◌↔◌}
+use Rattle.std.specs.Prelude.{zip, Bool, true, false, IsTrue, ◌↔◌, Option}
 use Rattle.std.proofs.lemmas.Bool.{cases_lt}
 use Rattle.std.proofs.Math.ListN.{drop_of_length-le}
 use Rattle.std.proofs.lemmas.List.Elements.{All-push, All-append}
@@ -14,7 +14,7 @@ use Rattle.ny_kinds.specs.declared.kind.Use.{Use}
 use Rattle.ny_kinds.specs.declared.kind.Stop.{Stop}
 use Rattle.ny_kinds.specs.declared.kind.Stop.TheVariants as stop
 use Rattle.ny_kinds.specs.Kinds.{some_kinds, behavior_at}
-use Rattle.ny_kinds.specs.Table.{IsRight, IsEarlier, top_of}
+use Rattle.ny_kinds.specs.Table.{IsRight, IsReason, top_of}
 
 pub top_of-push : (us : List Use) (u : Use) → top_of (us ++ u ∷ []) ≡ u.number + 1
 top_of-push [] u = refl
@@ -58,8 +58,8 @@ smaller_longer len len' top top' more small high low = omega arith
 pub smaller_down : (len len' top top' : ℕ) → len ≤ len' → len' < 2 ^ 63 → top' < top → (2 ^ 63 - len') * 2 ^ 32 + top' < (2 ^ 63 - len) * 2 ^ 32 + top
 smaller_down len len' top top' more small h = omega arith
 
-pub number_of : (here : ℕ) (s : Stop) (u : Use) → s ≡ stop.Missing u → IsEarlier here s → u.number < here
-number_of here s u is h = subst (IsEarlier here) is h
+pub number_of : (most : Option ℕ) (here : ℕ) (s : Stop) (u : Use) → s ≡ stop.Missing u → IsReason most here s → u.number < here
+number_of most here s u is h = subst (IsReason most here) is h
 
 pub stack_last : (n : ℕ) (us all : List Use) (u : Use) → all ≡ us ++ u ∷ [] → All (λ (w : Use). w.number < n) all → u.number < n
 stack_last n us all u is h =

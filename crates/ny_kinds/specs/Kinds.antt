@@ -155,7 +155,7 @@ term_kind (Term-F.Block bs e) at s =
 term_kind (Term-F.Apply o es) at s = let args = several es s in judged at (operands_row o (all_kinds args.kinds)) args.fault
 term_kind (Term-F.Over a v) at s = let f = a s in judged at (divided_row f.kind) f.fault
 term_kind (Term-F.Repeat o x n e) at s = let f = e (with_value x (Some Number) s) in judged at (sound_row f.kind) f.fault
-term_kind (Term-F.Nameless place e) at s = let f = e s in judged at Silent (least (Some place) f.fault)
+term_kind (Term-F.Nameless e) at s = let f = e s in judged at Silent f.fault
 term_kind (Term-F.Warp vs e) at s = let f = e s in judged at (sound_row f.kind) f.fault
 term_kind (Term-F.Rate w r e) at s = let f = e s in judged at (sound_row f.kind) f.fault
 

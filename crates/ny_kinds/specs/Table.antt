@@ -1,5 +1,5 @@
 -- The table of what is known of functions, as the code keeps it.
-use Rattle.std.specs.Prelude.{◌≡◌, ℕ, ◌+◌, ◌<◌, List, [], ◌∷◌, length, All}
+use Rattle.std.specs.Prelude.{◌≡◌, ℕ, ◌+◌, ◌<◌, true, List, [], ◌∷◌, Option, is_some, length, All}
 use Rattle.ny_resolve.specs.declared.term.Declared.{Declared}
 use Rattle.ny_kinds.specs.declared.kind.Entry.{Entry}
 use Rattle.ny_kinds.specs.declared.kind.Stop.{Stop}
@@ -12,10 +12,11 @@ pub record IsRight (ds : List Declared) (e : Entry) : Type 0 where
   pub within : e.number < length ds
   pub found : e.found ≡ behavior_at ds e.number e.kinds
 
--- what is missing is a function that comes before
-abbrev pub IsEarlier : ℕ → Stop → Type 0
-IsEarlier here (stop.Missing u) = u.number < here
-IsEarlier here stop.OutOfMemory = Unit {0}
+-- what is missing is a function that comes before, and too many expressions were judged only where there is a bound
+abbrev pub IsReason : Option ℕ → ℕ → Stop → Type 0
+IsReason most here (stop.Missing u) = u.number < here
+IsReason most here stop.TooManyNodes = is_some most ≡ true
+IsReason most here stop.OutOfMemory = Unit {0}
 
 -- 1 more than the number of the last of what is still to be judged
 abbrev pub top_of : List Use → ℕ

@@ -1,5 +1,5 @@
 -- The kinds of a whole text: those of its global values and of what it plays.
-use Rattle.std.specs.Prelude.{ℕ, ◌+◌, min, max, Bool, true, false, if◌then◌else◌, List, [], ◌∷◌, length, Option, Some, None}
+use Rattle.std.specs.Prelude.{◌≡◌, is_some, ℕ, ◌+◌, min, max, Bool, true, false, if◌then◌else◌, List, [], ◌∷◌, length, Option, Some, None}
 use Rattle.ny_resolve.specs.declared.term.Part.{Part}
 use Rattle.ny_resolve.specs.declared.term.Declared.{Declared}
 use Rattle.ny_kinds.specs.declared.kind.Kind.{Kind}
@@ -7,6 +7,8 @@ use Rattle.ny_kinds.specs.declared.kind.Kind.TheVariants.{Sound, Channels}
 use Rattle.ny_kinds.specs.declared.kind.Judgement.{Judgement}
 use Rattle.ny_kinds.specs.declared.kind.Judgement.TheVariants.{Silent}
 use Rattle.ny_kinds.specs.declared.kind.Found.{Found}
+use Rattle.ny_kinds.specs.declared.kind.Unjudged.{Unjudged}
+use Rattle.ny_kinds.specs.declared.kind.Unjudged.TheVariants as why
 use Rattle.ny_kinds.specs.Rows.{given, is_number}
 use Rattle.ny_kinds.specs.Kinds.{judged, least, kind_of, scope_of}
 
@@ -46,6 +48,11 @@ play_kind all (Some e) = let f = kind_of e (scope_of [] all (length all)) in jud
 -- the kind of what a text plays, and the least place of a refusal in the text
 unfoldable pub text_kind : List Declared → Option Part → Found
 text_kind all play = let f = play_kind all play in record { kind = f.kind; fault = least (values_fault all 0 all) f.fault }
+
+-- the kinds of a text are judged whole where no bound is given: then nothing but memory can be wanting
+abbrev pub IsBound : Option ℕ → Unjudged → Type 0
+IsBound most why.TooManyNodes = is_some most ≡ true
+IsBound most why.OutOfMemory = Unit {0}
 
 -- how many channels what is played has: an accepted text has no vector of none or of more than eight
 abbrev pub channels_in : Option Kind → ℕ

@@ -2,10 +2,10 @@ ghost use Rattle.std.specs.Prelude.{◌≡◌, ◌≤◌, ◌<◌, get_or, lengt
 ghost use Rattle.std.specs.List.{list_any, list_all};
 ghost use Rattle.ny_kinds.specs.Rows.{is_value};
 ghost use Rattle.ny_kinds.specs.Kinds.{kind_named, least, judged, all_kinds, operands_row, divided_row, sound_row, returned_row, called, is_refused_bind, is_silent_bind, named_kind, block_row, several, several_binds, kind_of, kind_of_bind, some_kinds, behavior, behavior_at, scope_of, seen, nothing};
-ghost use Rattle.ny_kinds.specs.Table.{IsRight, IsEarlier};
+ghost use Rattle.ny_kinds.specs.Table.{IsRight, IsReason};
 
 use crate::kind::{Found, Judgement, Kind, Reached, Stop, Use};
-use crate::known::{Table, look_up};
+use crate::known::{Limits, Table, look_up};
 use crate::row::{is_value, operator_row};
 use ny_resolve::{Bound, Declared, NameId, Operator, Part, Term};
 use ny_scope::Scope;
@@ -184,7 +184,7 @@ fn body_found(
     alloc: Global,
     ds: &[Declared],
     table: &mut Table,
-    left: u32,
+    limits: Limits,
     here: u32,
     number: u32,
     kinds: Items<Kind>,
@@ -192,7 +192,7 @@ fn body_found(
     requires here { here ≤ length ds.now }
     requires known { All (IsRight ds.now) table.old.entries.items }
     ensures found { IfOk result (λ f. f ≡ get_or (seen ds.now here) number nothing kinds) }
-    ensures missing { IfErr result (IsEarlier here) }
+    ensures missing { IfErr result (IsReason limits.most here) }
     ensures known { All (IsRight ds.now) table.new.entries.items }
     ensures kept { vec_len table.old.entries ≤ vec_len table.new.entries }
 {
@@ -205,10 +205,10 @@ fn body_found(
     if let Some(found) = look_up(ds, table, number, kinds.as_slice()) {
         return Ok(found);
     }
-    if left == 0 {
+    if limits.levels == 0 {
         return Err(Stop::Missing(Use { number, kinds }));
     }
-    let found = judge_body(alloc, ds, table, left, number, kinds.as_slice())?;
+    let found = judge_body(alloc, ds, table, limits, number, kinds.as_slice())?;
     table.add(ds, Use { number, kinds }, found)?;
     Ok(found)
 }
@@ -220,20 +220,20 @@ pub(crate) fn judge_body(
     alloc: Global,
     ds: &[Declared],
     table: &mut Table,
-    left: u32,
+    limits: Limits,
     number: u32,
     kinds: &[Kind],
 ) -> Result<Found, Stop>
     requires within { number < length ds.now }
     requires known { All (IsRight ds.now) table.old.entries.items }
     ensures found { IfOk result (λ f. f ≡ behavior_at ds.now number kinds.now) }
-    ensures missing { IfErr result (IsEarlier number) }
+    ensures missing { IfErr result (IsReason limits.most number) }
     ensures known { All (IsRight ds.now) table.new.entries.items }
     ensures kept { vec_len table.old.entries ≤ vec_len table.new.entries }
 {
     let d = &ds[number as usize];
     let mut values = parameters(alloc, d.params.as_slice(), kinds)?;
-    Ok(judge(alloc, ds, table, left, number, &d.body, &mut values)?)
+    Ok(judge(alloc, ds, table, limits, number, &d.body, &mut values)?)
 }
 
 /// What a call says, of the kinds of its arguments.
@@ -242,7 +242,7 @@ fn called(
     alloc: Global,
     ds: &[Declared],
     table: &mut Table,
-    left: u32,
+    limits: Limits,
     here: u32,
     number: u32,
     kinds: Option<Items<Kind>>,
@@ -250,7 +250,7 @@ fn called(
     requires here { here ≤ length ds.now }
     requires known { All (IsRight ds.now) table.old.entries.items }
     ensures reached { IfOk result (λ r. r ≡ called (get_or (seen ds.now here) number nothing) kinds) }
-    ensures missing { IfErr result (IsEarlier here) }
+    ensures missing { IfErr result (IsReason limits.most here) }
     ensures known { All (IsRight ds.now) table.new.entries.items }
     ensures kept { vec_len table.old.entries ≤ vec_len table.new.entries }
 {
@@ -266,7 +266,7 @@ fn called(
                     fault: None,
                 });
             }
-            let body = body_found(alloc, ds, table, left, here, number, kinds)?;
+            let body = body_found(alloc, ds, table, limits, here, number, kinds)?;
             Ok(Reached {
                 row: returned_row(body.kind),
                 fault: body.fault,
@@ -283,14 +283,14 @@ struct Parts {
 }
 
 /// The kind of an expression, and the least place of a refusal in it; or a function that comes before and is to be judged
-/// first. At most so many levels are `left` to be nested before a function that is missing is put off.
+/// first. Beyond the limits a function that is missing is put off, or judging stops.
 #[cycle(judge)]
 #[tactic(auto, using(crate::proofs::Joined::of_names))]
 pub(crate) fn judge(
     alloc: Global,
     ds: &[Declared],
     table: &mut Table,
-    left: u32,
+    limits: Limits,
     here: u32,
     e: &Part,
     values: &mut Scope<NameId, Option<Kind>>,
@@ -298,12 +298,18 @@ pub(crate) fn judge(
     requires here { here ≤ length ds.now }
     requires known { All (IsRight ds.now) table.old.entries.items }
     ensures found { IfOk result (λ f. f ≡ kind_of e.now (scope_of values.old ds.now here)) }
-    ensures missing { IfErr result (IsEarlier here) }
+    ensures missing { IfErr result (IsReason limits.most here) }
     ensures known { All (IsRight ds.now) table.new.entries.items }
     ensures same { OnOk result (values.new ≡ values.old) }
     ensures kept { vec_len table.old.entries ≤ vec_len table.new.entries }
 {
-    let left = left.saturating_sub(1);
+    let limits = Limits {
+        levels: limits.levels.saturating_sub(1),
+        most: limits.most,
+    };
+    if !table.count(limits.most) {
+        return Err(Stop::TooManyNodes);
+    }
     match &e.term {
         Term::Number(_) => Ok(judged(e.at, Judgement::Is(Kind::Number), None)),
         Term::Local(x) => Ok(Found {
@@ -312,15 +318,15 @@ pub(crate) fn judge(
         }),
         Term::Global(_) => Ok(judged(e.at, Judgement::Is(Kind::Number), None)),
         Term::Call(number, parts) => {
-            let parts = judge_parts(alloc, ds, table, left, here, parts.as_slice(), values)?;
+            let parts = judge_parts(alloc, ds, table, limits, here, parts.as_slice(), values)?;
             let kinds = all_kinds(alloc, parts.kinds.as_slice())?;
-            let call = called(alloc, ds, table, left, here, *number, kinds)?;
+            let call = called(alloc, ds, table, limits, here, *number, kinds)?;
             Ok(judged(e.at, call.row, least(parts.fault, call.fault)))
         }
         Term::Block(binds, value) => {
             let outer = values.len();
-            let binds = judge_binds(alloc, ds, table, left, here, binds.as_slice(), values)?;
-            let value = judge(alloc, ds, table, left, here, value.get(), values)?;
+            let binds = judge_binds(alloc, ds, table, limits, here, binds.as_slice(), values)?;
+            let value = judge(alloc, ds, table, limits, here, value.get(), values)?;
             values.leave(outer);
             Ok(judged(
                 e.at,
@@ -329,31 +335,31 @@ pub(crate) fn judge(
             ))
         }
         Term::Apply(operator, parts) => {
-            let parts = judge_parts(alloc, ds, table, left, here, parts.as_slice(), values)?;
+            let parts = judge_parts(alloc, ds, table, limits, here, parts.as_slice(), values)?;
             let kinds = all_kinds(alloc, parts.kinds.as_slice())?;
             Ok(judged(e.at, operands_row(*operator, &kinds), parts.fault))
         }
         Term::Over(a, _) => {
-            let a = judge(alloc, ds, table, left, here, a.get(), values)?;
+            let a = judge(alloc, ds, table, limits, here, a.get(), values)?;
             Ok(judged(e.at, divided_row(a.kind), a.fault))
         }
         Term::Repeat(_, x, _, part) => {
             let outer = values.len();
             values.bind(*x, Some(Kind::Number))?;
-            let part = judge(alloc, ds, table, left, here, part.get(), values)?;
+            let part = judge(alloc, ds, table, limits, here, part.get(), values)?;
             values.leave(outer);
             Ok(judged(e.at, sound_row(part.kind), part.fault))
         }
-        Term::Nameless(place, part) => {
-            let part = judge(alloc, ds, table, left, here, part.get(), values)?;
-            Ok(judged(e.at, Judgement::Silent, least(Some(*place), part.fault)))
+        Term::Nameless(part) => {
+            let part = judge(alloc, ds, table, limits, here, part.get(), values)?;
+            Ok(judged(e.at, Judgement::Silent, part.fault))
         }
         Term::Warp(_, part) => {
-            let part = judge(alloc, ds, table, left, here, part.get(), values)?;
+            let part = judge(alloc, ds, table, limits, here, part.get(), values)?;
             Ok(judged(e.at, sound_row(part.kind), part.fault))
         }
         Term::Rate(_, _, part) => {
-            let part = judge(alloc, ds, table, left, here, part.get(), values)?;
+            let part = judge(alloc, ds, table, limits, here, part.get(), values)?;
             Ok(judged(e.at, sound_row(part.kind), part.fault))
         }
     }
@@ -365,7 +371,7 @@ fn judge_parts(
     alloc: Global,
     ds: &[Declared],
     table: &mut Table,
-    left: u32,
+    limits: Limits,
     here: u32,
     parts: &[Part],
     values: &mut Scope<NameId, Option<Kind>>,
@@ -373,7 +379,7 @@ fn judge_parts(
     requires here { here ≤ length ds.now }
     requires known { All (IsRight ds.now) table.old.entries.items }
     ensures parts { IfOk result (λ p. record { kinds = p.kinds.items; fault = p.fault } ≡ several (map kind_of parts.now) (scope_of values.old ds.now here)) }
-    ensures missing { IfErr result (IsEarlier here) }
+    ensures missing { IfErr result (IsReason limits.most here) }
     ensures known { All (IsRight ds.now) table.new.entries.items }
     ensures same { OnOk result (values.new ≡ values.old) }
     ensures kept { vec_len table.old.entries ≤ vec_len table.new.entries }
@@ -381,7 +387,7 @@ fn judge_parts(
     let mut kinds = Vec::new(alloc);
     let mut fault = None;
     for part in parts {
-        let found = judge(alloc, ds, table, left, here, part, values)?;
+        let found = judge(alloc, ds, table, limits, here, part, values)?;
         fault = least(fault, found.fault);
         kinds.push(found.kind)?;
     }
@@ -395,7 +401,7 @@ fn judge_binds(
     alloc: Global,
     ds: &[Declared],
     table: &mut Table,
-    left: u32,
+    limits: Limits,
     here: u32,
     binds: &[Bound],
     values: &mut Scope<NameId, Option<Kind>>,
@@ -403,7 +409,7 @@ fn judge_binds(
     requires here { here ≤ length ds.now }
     requires known { All (IsRight ds.now) table.old.entries.items }
     ensures binds { IfOk result (λ b. record { values = values.new; kinds = b.kinds.items; fault = b.fault } ≡ several_binds (map kind_of_bind binds.now) (scope_of values.old ds.now here)) }
-    ensures missing { IfErr result (IsEarlier here) }
+    ensures missing { IfErr result (IsReason limits.most here) }
     ensures known { All (IsRight ds.now) table.new.entries.items }
     ensures outer { OnOk result (take (length values.old) values.new ≡ values.old) }
     ensures kept { vec_len table.old.entries ≤ vec_len table.new.entries }
@@ -411,7 +417,7 @@ fn judge_binds(
     let mut kinds = Vec::new(alloc);
     let mut fault = None;
     for bind in binds {
-        let found = judge(alloc, ds, table, left, here, &bind.value, values)?;
+        let found = judge(alloc, ds, table, limits, here, &bind.value, values)?;
         fault = least(fault, found.fault);
         values.bind(bind.name, named_kind(found.kind))?;
         kinds.push(found.kind)?;

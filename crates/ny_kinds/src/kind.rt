@@ -59,7 +59,29 @@ pub struct Entry {
 pub enum Stop {
     /// This function is to be judged first, for these kinds.
     Missing(Use),
+    /// As many expressions were judged as are to be.
+    TooManyNodes,
     OutOfMemory,
+}
+
+/// Why the kinds of a text are not known.
+#[derive(Clone, Copy, Debug, PartialEq, Eq)]
+pub enum Unjudged {
+    /// As many expressions were judged as the caller allows.
+    TooManyNodes,
+    /// No memory was left.
+    OutOfMemory,
+}
+
+impl From<AllocError> for Unjudged {
+    ghost use Rattle.std.specs.Prelude.{◌≡◌};
+    ghost use Rattle.ny_kinds.specs.declared.kind.Unjudged.TheVariants.{OutOfMemory};
+
+    ghost from_gives = { λ e s. s ≡ OutOfMemory };
+
+    fn from(_error: AllocError) -> Unjudged {
+        Unjudged::OutOfMemory
+    }
 }
 
 impl From<AllocError> for Stop {

@@ -1,4 +1,4 @@
-ghost use Rattle.std.specs.Prelude.{◌≡◌, ◌<◌, ◌≤◌, ◌+◌, length, All, IfOk, IfSome, IsTrue, OnOk, None, [], vec_len};
+ghost use Rattle.std.specs.Prelude.{◌≡◌, ◌<◌, ◌≤◌, ◌+◌, length, All, IfOk, IfSome, is_some, true, false, IsTrue, OnOk, None, [], vec_len};
 ghost use Rattle.ny_kinds.specs.Kinds.{behavior_at};
 ghost use Rattle.ny_kinds.specs.Table.{IsRight};
 
@@ -27,6 +27,17 @@ pub struct Table {
     pub entries: Vec<Entry>,
     /// For each list of entries, where its newest one stands, counted from 1; or 0.
     pub newest: Vec<usize>,
+    /// How many expressions were judged.
+    pub judged: u64,
+}
+
+/// How far judging goes.
+#[derive(Clone, Copy, Debug, PartialEq, Eq)]
+pub struct Limits {
+    /// So many levels may still be nested before a function that is missing is put off.
+    pub levels: u32,
+    /// At most so many expressions are judged, if there is a bound.
+    pub most: Option<u64>,
 }
 
 /// How many lists of entries there are.
@@ -57,7 +68,20 @@ impl Table {
         Ok(Table {
             entries: Vec::new(alloc),
             newest,
+            judged: 0,
         })
+    }
+
+    /// Counts one more expression that is judged, and says whether it is within the bound.
+    pub(crate) fn count(&mut self, most: Option<u64>) -> bool
+        ensures known { self.new.entries ≡ self.old.entries }
+        ensures within { result ≡ false → is_some most ≡ true }
+    {
+        self.judged = self.judged.saturating_add(1);
+        match most {
+            Some(most) => self.judged <= most,
+            None => true,
+        }
     }
 
     /// Adds what a function's body is for these kinds.

@@ -11,5 +11,5 @@ mod resolve;
 mod row;
 mod whole;
 
-pub use kind::{Found, Kind};
+pub use kind::{Found, Kind, Unjudged};
 pub use whole::{channels, text_kind};

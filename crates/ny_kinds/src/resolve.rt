@@ -1,37 +1,47 @@
-ghost use Rattle.std.specs.Prelude.{◌≡◌, ◌<◌, ◌≤◌, ◌^◌, [], length, All, IfOk, OnOk, vec_len};
+ghost use Rattle.std.specs.Prelude.{◌≡◌, ◌<◌, ◌≤◌, ◌^◌, [], length, All, IfOk, IfErr, OnOk, vec_len};
 ghost use Rattle.ny_kinds.specs.Kinds.{kind_of, scope_of};
 ghost use Rattle.ny_kinds.specs.Table.{IsRight};
+ghost use Rattle.ny_kinds.specs.Whole.{IsBound};
 
 use crate::judging::{judge, judge_body};
-use crate::kind::{Found, Stop, Use};
-use crate::known::Table;
+use crate::kind::{Found, Stop, Unjudged, Use};
+use crate::known::{Limits, Table};
 use ny_resolve::{Declared, Part};
 use ny_scope::Scope;
 use sqlite_items::Items;
-use std::alloc::{AllocError, Global};
+use std::alloc::Global;
 
 /// So many levels of expressions are judged within one another, through the bodies of functions, before a function that is
 /// missing is put off. A body has at most 200 levels of its own, so that the native stack holds about 1,000.
 const LEVELS: u32 = 800;
 
 /// Adds entries to the table until it has one for this function and these kinds.
-fn resolve(alloc: Global, ds: &[Declared], table: &mut Table, first: Use) -> Result<(), AllocError>
+fn resolve(
+    alloc: Global,
+    ds: &[Declared],
+    table: &mut Table,
+    most: Option<u64>,
+    first: Use,
+) -> Result<(), Unjudged>
     requires few { length ds.now < 2 ^ 32 }
     requires within { first.number < length ds.now }
     requires known { All (IsRight ds.now) table.old.entries.items }
     ensures known { All (IsRight ds.now) table.new.entries.items }
     ensures longer { OnOk result (vec_len table.old.entries < vec_len table.new.entries) }
+    ensures bound { IfErr result (IsBound most) }
 {
     let mut stack = Items::new(alloc);
     stack.push(first)?;
     while let Some(next) = stack.pop() {
-        match judge_body(alloc, ds, table, LEVELS, next.number, next.kinds.as_slice()) {
+        let limits = Limits { levels: LEVELS, most };
+        match judge_body(alloc, ds, table, limits, next.number, next.kinds.as_slice()) {
             Ok(found) => table.add(ds, next, found)?,
             Err(Stop::Missing(earlier)) => {
                 stack.push(next)?;
                 stack.push(earlier)?;
             }
-            Err(Stop::OutOfMemory) => return Err(AllocError),
+            Err(Stop::TooManyNodes) => return Err(Unjudged::TooManyNodes),
+            Err(Stop::OutOfMemory) => return Err(Unjudged::OutOfMemory),
         }
     }
     Ok(())
@@ -43,20 +53,24 @@ pub(crate) fn root_kind(
     alloc: Global,
     ds: &[Declared],
     table: &mut Table,
+    most: Option<u64>,
     here: u32,
     e: &Part,
-) -> Result<Found, AllocError>
+) -> Result<Found, Unjudged>
     requires few { length ds.now < 2 ^ 32 }
     requires here { here ≤ length ds.now }
     requires known { All (IsRight ds.now) table.old.entries.items }
     ensures found { IfOk result (λ f. f ≡ kind_of e.now (scope_of [] ds.now here)) }
     ensures known { All (IsRight ds.now) table.new.entries.items }
+    ensures bound { IfErr result (IsBound most) }
 {
     loop {
-        match judge(alloc, ds, table, LEVELS, here, e, &mut Scope::new(alloc)) {
+        let limits = Limits { levels: LEVELS, most };
+        match judge(alloc, ds, table, limits, here, e, &mut Scope::new(alloc)) {
             Ok(found) => return Ok(found),
-            Err(Stop::Missing(earlier)) => resolve(alloc, ds, table, earlier)?,
-            Err(Stop::OutOfMemory) => return Err(AllocError),
+            Err(Stop::Missing(earlier)) => resolve(alloc, ds, table, most, earlier)?,
+            Err(Stop::TooManyNodes) => return Err(Unjudged::TooManyNodes),
+            Err(Stop::OutOfMemory) => return Err(Unjudged::OutOfMemory),
         }
     }
 }

@@ -53,7 +53,7 @@ term_depth (Term-F.Block bs e) s = 1 + max (binds_depth bs s) (e (record { value
 term_depth (Term-F.Apply o es) s = 1 + greatest es s
 term_depth (Term-F.Over a v) s = 1 + max (a s) 1
 term_depth (Term-F.Repeat o x n e) s = 1 + max 1 (e (with_value x 0 s))
-term_depth (Term-F.Nameless place e) s = 1 + e s
+term_depth (Term-F.Nameless e) s = 1 + e s
 term_depth (Term-F.Warp vs e) s = 1 + max 1 (e s)
 term_depth (Term-F.Rate w r e) s = 1 + max 1 (e s)
 

@@ -23,7 +23,7 @@ term_weight (Term-F.Block bs e) ds = 1 + total bs ds + e ds
 term_weight (Term-F.Apply o es) ds = 1 + total es ds
 term_weight (Term-F.Over a v) ds = 1 + a ds + 1
 term_weight (Term-F.Repeat o x n e) ds = 1 + n * e ds
-term_weight (Term-F.Nameless place e) ds = 1 + e ds
+term_weight (Term-F.Nameless e) ds = 1 + e ds
 term_weight (Term-F.Warp vs e) ds = 1 + length vs + e ds
 term_weight (Term-F.Rate w r e) ds = 1 + 1 + e ds
 

@@ -51,7 +51,7 @@ fn depth(values: &mut Scope<NameId, u64>, known: &[u64], e: &Part) -> Result<u64
             values.leave(outer);
             Ok(sum(1, part.max(1)))
         }
-        Term::Nameless(_, part) => {
+        Term::Nameless(part) => {
             let part = depth(values, known, part.get())?;
             Ok(sum(1, part))
         }

@@ -30,7 +30,7 @@ fn weight(known: &[u64], e: &Part) -> u64
             1,
             product(u64::from(*count), weight(known, part.get())),
         ),
-        Term::Nameless(_, part) => sum(1, weight(known, part.get())),
+        Term::Nameless(part) => sum(1, weight(known, part.get())),
         Term::Warp(literals, part) => sum(sum(1, literals.len() as u64), weight(known, part.get())),
         Term::Rate(_, _, part) => sum(2, weight(known, part.get())),
     }

@@ -52,8 +52,8 @@ size-Over p v = ap size_of_term (sym (rolls-Over p v)) ∙ fold-roll-Term ℕ �
 pub size-Repeat : (o : Order) (x : NameId) (n : ℕ) (p : Part) → size_of_term (term.Repeat o x n p) ≡ 1 + size_of_part p
 size-Repeat o x n p = ap size_of_term (sym (rolls-Repeat o x n p)) ∙ fold-roll-Term ℕ ℕ ℕ term_size bound_size part_size (Term-F.Repeat o x n p)
 
-pub size-Nameless : (at : ℕ) (p : Part) → size_of_term (term.Nameless at p) ≡ 1 + size_of_part p
-size-Nameless at p = ap size_of_term (sym (rolls-Nameless at p)) ∙ fold-roll-Term ℕ ℕ ℕ term_size bound_size part_size (Term-F.Nameless at p)
+pub size-Nameless : (p : Part) → size_of_term (term.Nameless p) ≡ 1 + size_of_part p
+size-Nameless p = ap size_of_term (sym (rolls-Nameless p)) ∙ fold-roll-Term ℕ ℕ ℕ term_size bound_size part_size (Term-F.Nameless p)
 
 pub size-Warp : (vs : List ℤ) (p : Part) → size_of_term (term.Warp vs p) ≡ 1 + size_of_part p
 size-Warp vs p = ap size_of_term (sym (rolls-Warp vs p)) ∙ fold-roll-Term ℕ ℕ ℕ term_size bound_size part_size (Term-F.Warp vs p)

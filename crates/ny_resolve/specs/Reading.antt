@@ -94,9 +94,11 @@ value_named at x s None =
 
 -- ---- calls of built-ins
 
--- argument j of a repeat, warp or change of rate that is a literal, a name or a map of the wrong form
+-- argument j of a repeat, warp or change of rate that should be a name, a literal or a map, and is none
 abbrev pub argument_faults : Builtin → ℕ → Reading → List Fault
-argument_faults (builtin.Repeat o) j e = if nat_eq j 1 then fault_if (nat_eq (count_of_shape e.shape) 0) why.BadCount e.at else []
+argument_faults (builtin.Repeat o) j e =
+    if nat_eq j 0 then fault_if (not (is_some (bare_in e.shape))) why.Kind e.at
+    else (if nat_eq j 1 then fault_if (nat_eq (count_of_shape e.shape) 0) why.BadCount e.at else [])
 argument_faults builtin.Warp j e = if nat_eq j 0 then fault_if (not (is_good_map e.shape)) why.BadMap e.at else []
 argument_faults (builtin.Rate r) j e = if nat_eq j 0 then fault_if (not (is_some (rate_of_shape e.shape))) why.BadRate e.at else []
 argument_faults (builtin.Apply o) j e = []
@@ -173,7 +175,7 @@ last_part p (q ∷ qs) = last_part q qs
 -- a repeat with its counter, or without one
 abbrev pub repeat_term : Order → Option Bytes → ℕ → ℕ → Part → Term
 repeat_term o (Some x) at n e = term.Repeat o (name_at at) n e
-repeat_term o None at n e = term.Nameless at e
+repeat_term o None at n e = term.Nameless e
 
 abbrev pub rate_or : Option Rate → Rate
 rate_or (Some r) = r

@@ -18,7 +18,7 @@ term_size (Term-F.Block bs e) = 1 + (total bs + e)
 term_size (Term-F.Apply o es) = 1 + total es
 term_size (Term-F.Over a v) = 1 + a
 term_size (Term-F.Repeat o x n e) = 1 + e
-term_size (Term-F.Nameless place e) = 1 + e
+term_size (Term-F.Nameless e) = 1 + e
 term_size (Term-F.Warp vs e) = 1 + e
 term_size (Term-F.Rate a r e) = 1 + e
 

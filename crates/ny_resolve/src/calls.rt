@@ -91,7 +91,7 @@ pub(crate) fn sees_counter(builtin: Builtin, j: usize) -> bool
     j == 2 && is_repeat(builtin)
 }
 
-/// The first fault, where argument `j` is a literal of the wrong form.
+/// The first fault, where argument `j` is no name, literal or map that it should be.
 #[tactic(auto, using(crate::proofs::Earliest::told))]
 pub(crate) fn argument_noted(
     alloc: Global,
@@ -103,6 +103,12 @@ pub(crate) fn argument_noted(
     ensures { IfOk result (λ f. f ≡ earliest_after first (argument_faults builtin j (reading e.now))) }
 {
     match builtin {
+        Builtin::Repeat(_) if j == 0 => Ok(noted_if(
+            bare(e).is_none(),
+            CheckWhy::Kind,
+            e.at,
+            first,
+        )),
         Builtin::Repeat(_) if j == 1 => Ok(noted_if(
             count(e) == 0,
             CheckWhy::BadCount,
@@ -195,7 +201,7 @@ fn repeat_term(
     let part = Boxed::new(alloc, part)?;
     match counter {
         Some(_) => Ok(Term::Repeat(order, NameId(at), count, part)),
-        None => Ok(Term::Nameless(at, part)),
+        None => Ok(Term::Nameless(part)),
     }
 }
 

@@ -12,7 +12,7 @@ pub enum CheckWhy {
     NotYetDefined,
     /// A wrong number of arguments.
     Arity,
-    /// Operands of kinds that their operator refuses.
+    /// Operands of kinds that their operator refuses, or a first argument of a repeat that is no bare name.
     Kind,
     /// A count that is no whole literal from 1 to 100000.
     BadCount,

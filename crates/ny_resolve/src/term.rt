@@ -38,8 +38,8 @@ pub enum Term {
     Over(Boxed<Part>, Fix),
     /// `simrep` and `seqrep`: how often, and the part with its counter.
     Repeat(Order, NameId, u32, Boxed<Part>),
-    /// A repeat whose first argument, at this place, is no bare name.
-    Nameless(u32, Boxed<Part>),
+    /// The part of a repeat whose first argument is no bare name, which is a fault.
+    Nameless(Boxed<Part>),
     /// `warp`: the literals of the map, and what is warped.
     Warp(Items<Fix>, Boxed<Part>),
     Rate(Rated, Rate, Boxed<Part>),

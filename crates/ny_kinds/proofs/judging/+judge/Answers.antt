@@ -2,14 +2,22 @@ use Rattle.std.proofs.Common.{◌≡◌, ◌≤◌, ◌<◌, ◌+◌, ◌*◌, �
 use Rattle.ny_scope.proofs.Kept.{kept_more}
 use Rattle.ny_resolve.specs.declared.term.NameId.{NameId}
 use Rattle.ny_kinds.specs.declared.kind.Kind.{Kind}
-use Rattle.ny_kinds.specs.Kinds.{named_kind}
+use Rattle.ny_resolve.specs.declared.term.Part.{Part}
+use Rattle.ny_kinds.specs.Kinds.{named_kind, kind_of, scope_of}
+
 use Rattle.ny_kinds.proofs.Heights.{body-falls}
-use Rattle.ny_kinds.proofs.Joined.{binds-step}
+use Rattle.ny_kinds.proofs.Joined.{binds-step, arm-Repeat}
 use Rattle.ny_kinds.proofs.judging.+judge.Goals as goal
 
 pub body_found-judge_body-requires : goal.body_found-judge_body-requires
 body_found-judge_body-requires t c =
     (omega (arith, body-falls c.args.ds.now c.args.number c.args.here (omega arith), c.decreases), (omega arith, c.requires.known))
+
+pub judge-returns-in_ok-part-in-Repeat-clause-found : goal.judge-returns-in_ok-part-in-Repeat-clause-found
+judge-returns-in_ok-part-in-Repeat-clause-found t c =
+    arm-Repeat c.args.e.now c.in-Repeat.field-0 c.in-Repeat.x c.in-Repeat.field-2 c.in-Repeat.part c.args.ds.now c.args.here c.args.values.now c.bind.new.self
+    c.in_ok-part-in-Repeat.part c.sound_row.result c.judged-in-Repeat.result c.in-Repeat.is c.in_ok-bind-in-Repeat.ensures.bound
+    (c.in_ok-part-in-Repeat.ensures.found ∙ ap (λ (p : Part). kind_of p (scope_of c.bind.new.self c.args.ds.now c.args.here)) c.get-in-Repeat.ensures) c.sound_row.ensures c.judged-in-Repeat.ensures
 
 pub judge_binds-loop-bind-preserved : goal.judge_binds-loop-bind-preserved
 judge_binds-loop-bind-preserved t c =

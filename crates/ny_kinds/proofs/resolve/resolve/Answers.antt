@@ -15,7 +15,7 @@ loop-next-preserved-in-Continue-branch-2 c = record {
 pub loop-next-preserved : goal.loop-next-preserved
 loop-next-preserved c =
     let last : c.in-Some.next.number < length c.args.ds.now = stack_last (length c.args.ds.now) c.pop.new.self c.loop-next.stack c.in-Some.next c.in-Some.ensures c.loop-next.invariant.stack in
-    let earlier : c.in-Err-Missing.earlier.number < c.in-Some.next.number = number_of c.in-Some.next.number c.in-Err-Missing.field-0 c.in-Err-Missing.earlier c.in-Err-Missing.field-0-is c.in-Err-Missing.ensures.missing in
+    let earlier : c.in-Err-Missing.earlier.number < c.in-Some.next.number = number_of c.args.most c.in-Some.next.number c.in-Err-Missing.field-0 c.in-Err-Missing.earlier c.in-Err-Missing.field-0-is c.in-Err-Missing.ensures.missing in
     record {
       known = c.in-Err-Missing.ensures.known;
       stack = stack_push (length c.args.ds.now) c.push-in-Err-Missing.new.self c.push-in-Err-Missing-2.new.self (record { number = c.in-Err-Missing.earlier.number; kinds = c.in-Err-Missing.earlier.kinds }) c.in_ok-push-in-Err-Missing-2.ensures.ok (omega arith)
@@ -36,7 +36,7 @@ loop-next-smaller-in-Continue-branch-2 c =
 pub loop-next-smaller : goal.loop-next-smaller
 loop-next-smaller c =
     let top : top_of c.loop-next.stack ≡ c.in-Some.next.number + 1 = top_is c.pop.new.self c.loop-next.stack c.in-Some.next c.in-Some.ensures in
-    let earlier : c.in-Err-Missing.earlier.number < c.in-Some.next.number = number_of c.in-Some.next.number c.in-Err-Missing.field-0 c.in-Err-Missing.earlier c.in-Err-Missing.field-0-is c.in-Err-Missing.ensures.missing in
+    let earlier : c.in-Err-Missing.earlier.number < c.in-Some.next.number = number_of c.args.most c.in-Some.next.number c.in-Err-Missing.field-0 c.in-Err-Missing.earlier c.in-Err-Missing.field-0-is c.in-Err-Missing.ensures.missing in
     let new : top_of c.push-in-Err-Missing-2.new.self ≡ c.in-Err-Missing.earlier.number + 1 =
     ap top_of c.in_ok-push-in-Err-Missing-2.ensures.ok ∙ top_of-push c.push-in-Err-Missing.new.self _ in
     smaller_down (vec_len c.loop-next.table.entries) (vec_len c.judge_body.new.table.entries) (top_of c.loop-next.stack) (top_of c.push-in-Err-Missing-2.new.self)
