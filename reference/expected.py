@@ -1,6 +1,6 @@
 """Prints what the case program must print: `python3 reference/expected.py > crates/ny_cases/stdout`.
 
-It reads the lists in `crates/ny_cases/data/`, whose form `crates/ny_cases/data/README.md` describes, and answers each
+It reads the lists in `crates/ny_cases/data/`, whose form `crates/ny_cases/CASES.md` describes, and answers each
 case by `nyq.py`. With the word `later` it takes all forms of the language as built; with a list's file as a further word
 it answers the cases of that list alone."""
 
@@ -58,12 +58,17 @@ class Folder(nyq.Host):
         super().create(name)
 
 
+def on_file(words, text, later, out):
+    host = Folder(text)
+    status = nyq.run(words, host, later)
+    out(host.printed)
+    out(("status %d\n%s\n" % (status, file_shown(host))).encode())
+
+
 def on_files(path, later, out):
     for line, words, text in cases(path):
-        host = Folder(text)
-        status = nyq.run(words, host, later)
-        out(b"> " + line + b"\n" + host.printed)
-        out(("status %d\n%s\n" % (status, file_shown(host))).encode())
+        out(b"> " + line + b"\n")
+        on_file(words, text, later, out)
 
 
 def on_failing_hosts(path, later, out):
@@ -76,6 +81,8 @@ def on_failing_hosts(path, later, out):
                 printed = "printed " + shown(host.printed) if host.printed else "nothing printed"
                 what = "%s %d" % fault if fault else "none"
                 out(("step %d %s: status %d, %s, %s\n" % (step, what, status, file_shown(host), printed)).encode())
+        out(b"short calls\n")
+        on_file(words, text, later, out)
 
 
 def copies_are_the_examples():
