@@ -1,7 +1,8 @@
 """A plain and slow second program for the language of `nyq`.
 
-It is written from the rules of `docs/LANGUAGE.md` alone and shares no code with the crates. It computes what `nyq` must
-print, which file it must leave, and with which exit code, also for the forms that `nyq` doesn't play yet. Each section
+It is written from the rules alone, which `docs/LANGUAGE.md` and `docs/DEFINITIONS.md` tell in plain words, and shares no
+code with the crates. It computes what `nyq` must print, which file it must leave, and with which exit code, also for the
+forms that `nyq` doesn't play yet. Each section
 below has one part of the rules. Numbers are whole millionths and times whole ticks throughout, as plain integers.
 """
 
