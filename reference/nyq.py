@@ -2,8 +2,8 @@
 
 It is written from the rules alone, which `docs/LANGUAGE.md` and `docs/DEFINITIONS.md` tell in plain words, and shares no
 code with the crates. It computes what `nyq` must print, which file it must leave, and with which exit code, also for the
-forms that `nyq` doesn't play yet. Each section
-below has one part of the rules. Numbers are whole millionths and times whole ticks throughout, as plain integers.
+forms that `nyq` doesn't play yet. Each section below has one part of the rules. Numbers are whole millionths and times
+whole ticks throughout, as plain integers.
 """
 
 import struct
@@ -742,9 +742,6 @@ class Acceptance:
             self.fault("TooDeep", self.tree.play_at)
         if sum(weights) > MOST_WEIGHT:
             self.fault("TooHeavy", self.tree.play_at)
-
-    def is_call_of_function(self, e):
-        return e.form == "call" and e.name not in BUILT_INS and e.name != "map"
 
     def depth(self, e, given):
         """`given` has the depth of each local name; other names are global variables, with 0."""
@@ -1644,7 +1641,7 @@ def render(engine, rate, host, out):
     try:
         host.create(out)
     except Failed:
-        raise End(CREATE_FAULT, "fault: create " + out)
+        raise End(OPEN_FAULT, "fault: create " + out)
     try:
         host.write_all(wav_header(len(engine.channels), rate, engine.frames()))
         everyone = range(len(engine.channels))
@@ -1655,9 +1652,6 @@ def render(engine, rate, host, out):
         raise End(WRITE_FAULT, "")
     except PoolFull:
         raise End(POOL_FULL, "pool full after %d pulls" % engine.pulls)
-
-
-CREATE_FAULT = OPEN_FAULT
 
 
 def live(engine, order, kinds, host):
