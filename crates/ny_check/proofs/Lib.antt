@@ -8,4 +8,3 @@ pub mod ScalarEquation
 pub mod Uses
 pub mod MeaningEquation
 pub mod Counted
-pub mod WorkedRows

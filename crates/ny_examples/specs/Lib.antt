@@ -1,1 +1,4 @@
 pub mod Sounds
+pub mod Maps
+pub mod Programs
+pub mod Sequences

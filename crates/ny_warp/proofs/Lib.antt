@@ -5,4 +5,3 @@ pub mod PlacedThreshold
 pub mod StepLists
 pub mod LeastInverse
 pub mod NeverFalls
-pub mod WorkedRows
