@@ -12,7 +12,7 @@ use Rattle.ny_check.specs.declared.value.Value.{Value}
 use Rattle.ny_check.specs.Code.{Code, node_at, function_at, IsBelow, AllBelow, BindsBelow}
 use Rattle.ny_check.specs.Recursion.{below}
 use Rattle.ny_check.specs.Values.{scalar_of, scalars_of}
-use Rattle.ny_check.specs.Parts.{parts_together, parts_in_turn}
+use Rattle.ny_check.specs.Parts.{parts_in}
 use Rattle.ny_check.specs.Meaning.{Bound, Means, meaning, sound_node, value_of, value_by, bound_after, part_of, repeated_parts}
 use Rattle.ny_check.proofs.Smaller.{below-at, by_smaller-is}
 
@@ -47,29 +47,13 @@ pub sound_node-below : (code : Code) (n : ℕ) (other : Means) (f : ℕ → Mean
 sound_node-below code n other f (node.Call g es) env bound h = rw (values-below code n other f env bound es h.0, below-at n (function_at code g.0).body.0 other f h.2)
 sound_node-below code n other f (node.Block bs e) env bound h = rw (bound_after-below code n other f env bs bound h.0, below-at n e.0 other f h.1)
 sound_node-below code n other f (node.If c a b) env bound h = rw (below-at n a.0 other f h.1, below-at n b.0 other f h.2)
-sound_node-below code n other f (node.Add a b) env bound h = rw (value_of-below code n other f env bound a h.0, value_of-below code n other f env bound b h.1)
-sound_node-below code n other f (node.Sub a b) env bound h = rw (value_of-below code n other f env bound a h.0, value_of-below code n other f env bound b h.1)
-sound_node-below code n other f (node.Mul a b) env bound h = rw (value_of-below code n other f env bound a h.0, value_of-below code n other f env bound b h.1)
-sound_node-below code n other f (node.Max a b) env bound h = rw (value_of-below code n other f env bound a h.0, value_of-below code n other f env bound b h.1)
-sound_node-below code n other f (node.Min a b) env bound h = rw (value_of-below code n other f env bound a h.0, value_of-below code n other f env bound b h.1)
+sound_node-below code n other f (node.Pair op a b) env bound h = rw (value_of-below code n other f env bound a h.0, value_of-below code n other f env bound b h.1)
 sound_node-below code n other f (node.Neg a) env bound h = rw (value_of-below code n other f env bound a h)
-sound_node-below code n other f (node.Abs e) env bound h = rw (below-at n e.0 other f h)
+sound_node-below code n other f (node.Effect w e es) env bound h = rw (below-at n e.0 other f h.0)
 sound_node-below code n other f (node.Cue e) env bound h = rw (below-at n e.0 other f h)
-sound_node-below code n other f (node.OnePole e a) env bound h = rw (below-at n e.0 other f h.0)
-sound_node-below code n other f (node.Biquad e cs) env bound h = rw (below-at n e.0 other f h.0)
-sound_node-below code n other f (node.Comb e d g) env bound h = rw (below-at n e.0 other f h.0)
-sound_node-below code n other f (node.Sim es) env bound h = ap (λ ps. mix env.sound_rate (parts_together env ps)) (parts-below n other f bound es h)
-sound_node-below code n other f (node.Seq es) env bound h = ap (λ ps. mix env.sound_rate (parts_in_turn env ps)) (parts-below n other f bound es h)
-sound_node-below code n other f (node.SimRep i k e) env bound h = ap (λ ps. mix env.sound_rate (parts_together env ps)) (repeats-below n other f bound i k e h)
-sound_node-below code n other f (node.SeqRep i k e) env bound h = ap (λ ps. mix env.sound_rate (parts_in_turn env ps)) (repeats-below n other f bound i k e h)
-sound_node-below code n other f (node.At t e) env bound h = rw (below-at n e.0 other f h.1)
-sound_node-below code n other f (node.Stretch k e) env bound h = rw (below-at n e.0 other f h.1)
-sound_node-below code n other f (node.Loud k e) env bound h = rw (below-at n e.0 other f h.1)
-sound_node-below code n other f (node.Sustain k e) env bound h = rw (below-at n e.0 other f h.1)
-sound_node-below code n other f (node.Transpose k e) env bound h = rw (below-at n e.0 other f h.1)
-sound_node-below code n other f (node.Warp m e) env bound h = rw (below-at n e.0 other f h)
-sound_node-below code n other f (node.SoundRate r e) env bound h = rw (below-at n e.0 other f h)
-sound_node-below code n other f (node.ControlRate r e) env bound h = rw (below-at n e.0 other f h)
+sound_node-below code n other f (node.Mix o es) env bound h = ap (λ ps. mix env.sound_rate (parts_in o env ps)) (parts-below n other f bound es h)
+sound_node-below code n other f (node.Repeat o i k e) env bound h = ap (λ ps. mix env.sound_rate (parts_in o env ps)) (repeats-below n other f bound i k e h)
+sound_node-below code n other f (node.Change c e) env bound h = rw (below-at n e.0 other f h.1)
 sound_node-below code n other f _ env bound h = refl
 
 -- the meaning at a node, with the meaning itself in place of what the nodes before it mean

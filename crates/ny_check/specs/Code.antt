@@ -2,6 +2,8 @@
 use Rattle.std.specs.Prelude.{ℕ, ◌<◌, ◌≤◌, List, [], ◌∷◌, length, get_or, pos, ◌<ℤ◌}
 use Rattle.ny_check.specs.declared.node.Node.{Node}
 use Rattle.ny_check.specs.declared.node.Node.TheVariants as node
+use Rattle.ny_check.specs.declared.node.Change.{Change}
+use Rattle.ny_check.specs.declared.node.Change.TheVariants as change
 use Rattle.ny_check.specs.declared.node.ExprId.{ExprId}
 use Rattle.ny_check.specs.declared.node.Function.{Function}
 use Rattle.ny_resolve.specs.declared.term.NameId.{NameId}
@@ -35,6 +37,12 @@ abbrev pub BindsBelow : ℕ → List (NameId × ExprId) → Type 0
 BindsBelow n [] = Unit {0}
 BindsBelow n (b ∷ bs) = (b.1.0 < n) × BindsBelow n bs
 
+-- the number by which a change goes stands before n
+abbrev pub IsChangeBelow : ℕ → Change → Type 0
+IsChangeBelow n (change.By t k) = k.0 < n
+IsChangeBelow n (change.Warp m) = Unit {0}
+IsChangeBelow n (change.Rate rated r) = Unit {0}
+
 -- The nodes that a node names, and the body of the function that it calls, stand before n; a divisor is above 0.
 abbrev pub IsBelow : List Function → ℕ → Node → Type 0
 IsBelow fs n (node.Number v) = Unit {0}
@@ -42,11 +50,7 @@ IsBelow fs n (node.Local x) = Unit {0}
 IsBelow fs n (node.Global e) = e.0 < n
 IsBelow fs n (node.Call f es) = AllBelow n es × (f.0 < length fs) × ((get_or fs f.0 no_function).body.0 < n)
 IsBelow fs n (node.Block bs e) = BindsBelow n bs × (e.0 < n)
-IsBelow fs n (node.Add a b) = (a.0 < n) × (b.0 < n)
-IsBelow fs n (node.Sub a b) = (a.0 < n) × (b.0 < n)
-IsBelow fs n (node.Mul a b) = (a.0 < n) × (b.0 < n)
-IsBelow fs n (node.Max a b) = (a.0 < n) × (b.0 < n)
-IsBelow fs n (node.Min a b) = (a.0 < n) × (b.0 < n)
+IsBelow fs n (node.Pair op a b) = (a.0 < n) × (b.0 < n)
 IsBelow fs n (node.Div a v) = (a.0 < n) × (pos 0 <ℤ v)
 IsBelow fs n (node.Neg a) = a.0 < n
 IsBelow fs n (node.Compare r a b) = (a.0 < n) × (b.0 < n)
@@ -54,31 +58,12 @@ IsBelow fs n (node.And a b) = (a.0 < n) × (b.0 < n)
 IsBelow fs n (node.Or a b) = (a.0 < n) × (b.0 < n)
 IsBelow fs n (node.Not a) = a.0 < n
 IsBelow fs n (node.If c a b) = (c.0 < n) × (a.0 < n) × (b.0 < n)
-IsBelow fs n (node.Const v d) = (v.0 < n) × (d.0 < n)
-IsBelow fs n (node.Osc k d) = (k.0 < n) × (d.0 < n)
-IsBelow fs n (node.HzOsc h d) = (h.0 < n) × (d.0 < n)
-IsBelow fs n (node.Lfo h d) = (h.0 < n) × (d.0 < n)
-IsBelow fs n (node.Noise x d) = (x.0 < n) × (d.0 < n)
-IsBelow fs n (node.Rest d) = d.0 < n
-IsBelow fs n (node.Ramp d) = d.0 < n
-IsBelow fs n (node.Pwl es) = AllBelow n es
-IsBelow fs n (node.Abs e) = e.0 < n
+IsBelow fs n (node.Leaf w es) = AllBelow n es
+IsBelow fs n (node.Effect w e es) = (e.0 < n) × AllBelow n es
 IsBelow fs n (node.Cue e) = e.0 < n
-IsBelow fs n (node.OnePole e a) = (e.0 < n) × (a.0 < n)
-IsBelow fs n (node.Biquad e cs) = (e.0 < n) × AllBelow n cs
-IsBelow fs n (node.Comb e d g) = (e.0 < n) × (d.0 < n) × (g.0 < n)
-IsBelow fs n (node.Sim es) = AllBelow n es
-IsBelow fs n (node.Seq es) = AllBelow n es
-IsBelow fs n (node.SimRep x k e) = e.0 < n
-IsBelow fs n (node.SeqRep x k e) = e.0 < n
-IsBelow fs n (node.At t e) = (t.0 < n) × (e.0 < n)
-IsBelow fs n (node.Stretch k e) = (k.0 < n) × (e.0 < n)
-IsBelow fs n (node.Loud k e) = (k.0 < n) × (e.0 < n)
-IsBelow fs n (node.Sustain k e) = (k.0 < n) × (e.0 < n)
-IsBelow fs n (node.Transpose k e) = (k.0 < n) × (e.0 < n)
-IsBelow fs n (node.Warp m e) = e.0 < n
-IsBelow fs n (node.SoundRate r e) = e.0 < n
-IsBelow fs n (node.ControlRate r e) = e.0 < n
+IsBelow fs n (node.Mix o es) = AllBelow n es
+IsBelow fs n (node.Repeat o x k e) = e.0 < n
+IsBelow fs n (node.Change c e) = IsChangeBelow n c × (e.0 < n)
 IsBelow fs n (node.Vector es) = AllBelow n es
 
 -- the same of each node of a table

@@ -5,6 +5,7 @@ pub mod Recursion
 pub mod Values
 pub mod Globals
 pub mod Behaviours
+pub mod Families
 pub mod Parts
 pub mod Meaning
 pub mod Channels

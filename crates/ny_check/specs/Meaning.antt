@@ -2,17 +2,16 @@
 -- sounds. It knows no block, no reader and no order in time.
 use Rattle.std.specs.Prelude.{ℕ, ◌*◌, List, [], ◌∷◌, ◌++◌, map, zip, if◌then◌else◌, ℤ, pos, unwrap_or}
 use Rattle.std.specs.List.{range_with_len}
-use Rattle.ny_num.specs.Numbers.{sat_sample, sample_add, sample_sub, sample_mul, sample_max, sample_min, sample_abs}
+use Rattle.ny_num.specs.Numbers.{sat_sample, sample_sub}
 use Rattle.ny_num.specs.declared.rate.Rate.{Rate}
 use Rattle.ny_num.specs.declared.timing.Timing.{Timing}
 use Rattle.ny_num.specs.Sound as sounds
-use Rattle.ny_num.specs.Sound.{silence, sum_timing}
-use Rattle.ny_num.specs.Pointwise.{product_timing, combined, each_value}
+use Rattle.ny_num.specs.Sound.{silence}
+use Rattle.ny_num.specs.Pointwise.{combined, each_value}
 use Rattle.ny_num.specs.Resampling.{resampled}
-use Rattle.ny_num.specs.Filters.{Coefficients, one_pole, biquad, comb, comb_delay}
 use Rattle.ny_num.specs.Mix.{mix}
 use Rattle.ny_warp.specs.declared.env.Env.{Env}
-use Rattle.ny_warp.specs.Environment.{shifted, stretched, louder, sustained, transposed, warped, at_sound_rate, at_control_rate}
+use Rattle.ny_kernels.specs.Operations.{operation}
 use Rattle.ny_scope.specs.Scopes.{last_of}
 use Rattle.ny_resolve.specs.declared.term.NameId.{NameId}
 use Rattle.ny_resolve.specs.Keys.{same_name}
@@ -26,8 +25,9 @@ use Rattle.ny_check.specs.declared.value.Value.TheVariants.{Number, Sound}
 use Rattle.ny_check.specs.Code.{Code, node_at, function_at}
 use Rattle.ny_check.specs.Recursion.{by_smaller}
 use Rattle.ny_check.specs.Values.{scalars_of, scalar_of, number_of, test_of}
-use Rattle.ny_check.specs.Behaviours.{const_sound, rest_sound, ramp_sound, osc_sound, hzosc_sound, lfo_sound, noise_sound, envelope_sound, cue_sound}
-use Rattle.ny_check.specs.Parts.{parts_together, parts_in_turn}
+use Rattle.ny_check.specs.Behaviours.{cue_sound}
+use Rattle.ny_check.specs.Families.{pair_timing, leaf_sound, effect_sound, changed_env}
+use Rattle.ny_check.specs.Parts.{parts_in}
 
 -- ---- names
 
@@ -80,15 +80,6 @@ abbrev pub negated_value : Rate → Value sounds.Sound → sounds.Sound
 negated_value rate (Number k) = silence rate
 negated_value rate (Sound s) = each_value (sample_sub (pos 0)) (resampled rate s)
 
--- the coefficients of a biquad, in the order in which they are written
-abbrev pub coefficients_of : List ℤ → Coefficients
-coefficients_of (b0 ∷ b1 ∷ b2 ∷ a1 ∷ a2 ∷ more) = record { b0 = b0; b1 = b1; b2 = b2; a1 = a1; a2 = a2 }
-coefficients_of _ = record { b0 = pos 0; b1 = pos 0; b2 = pos 0; a1 = pos 0; a2 = pos 0 }
-
--- a comb, whose delay is counted at the sound's own rate
-abbrev pub comb_sound : ℤ → ℤ → sounds.Sound → sounds.Sound
-comb_sound delay gain s = comb (comb_delay s.rate delay) gain s
-
 -- ---- parts
 
 -- a part of `sim` or `seq`, as the sound that it is from an environment
@@ -106,8 +97,8 @@ repeated_parts rec bound i count e = map (repeated_part rec bound i e) (range_wi
 -- ---- expressions
 
 -- What a node means, of what the nodes before it mean. Arguments and binds are whole before a body is looked at, and a
--- body is evaluated in the environment of its call. Filters, `s-abs` and `cue` keep the rate of their sound. Numbers and
--- tests are no sounds, nor is `vector`.
+-- body is evaluated in the environment of its call. Effects and `cue` keep the rate of their sound. Numbers and tests are no
+-- sounds, nor is `vector`.
 abbrev pub sound_node : Code → Node → (ℕ → Means) → Means
 sound_node code (node.Local x) rec env bound =
     sound_in env.sound_rate (unwrap_or (last_of (same_name x) bound) (Sound (silence env.sound_rate)))
@@ -116,48 +107,17 @@ sound_node code (node.Call f es) rec env bound =
 sound_node code (node.Block bs e) rec env bound = rec e.0 env (bound_after code rec env bs bound)
 sound_node code (node.If c a b) rec env bound =
     if test_of code c (scalars_of bound) then rec a.0 env bound else rec b.0 env bound
-sound_node code (node.Add a b) rec env bound =
-    combined_values sum_timing sample_add env.sound_rate (value_of code rec env bound a) (value_of code rec env bound b)
-sound_node code (node.Sub a b) rec env bound =
-    combined_values sum_timing sample_sub env.sound_rate (value_of code rec env bound a) (value_of code rec env bound b)
-sound_node code (node.Mul a b) rec env bound =
-    combined_values product_timing sample_mul env.sound_rate (value_of code rec env bound a) (value_of code rec env bound b)
-sound_node code (node.Max a b) rec env bound =
-    combined_values sum_timing sample_max env.sound_rate (value_of code rec env bound a) (value_of code rec env bound b)
-sound_node code (node.Min a b) rec env bound =
-    combined_values sum_timing sample_min env.sound_rate (value_of code rec env bound a) (value_of code rec env bound b)
+sound_node code (node.Pair op a b) rec env bound =
+    combined_values (pair_timing op) (operation op) env.sound_rate
+    (value_of code rec env bound a) (value_of code rec env bound b)
 sound_node code (node.Neg a) rec env bound = negated_value env.sound_rate (value_of code rec env bound a)
-sound_node code (node.Const v d) rec env bound = const_sound env (number code bound v) (number code bound d)
-sound_node code (node.Osc key d) rec env bound = osc_sound env (number code bound key) (number code bound d)
-sound_node code (node.HzOsc hz d) rec env bound = hzosc_sound env (number code bound hz) (number code bound d)
-sound_node code (node.Lfo hz d) rec env bound = lfo_sound env (number code bound hz) (number code bound d)
-sound_node code (node.Noise v d) rec env bound = noise_sound env (number code bound v) (number code bound d)
-sound_node code (node.Rest d) rec env bound = rest_sound env (number code bound d)
-sound_node code (node.Ramp d) rec env bound = ramp_sound env (number code bound d)
-sound_node code (node.Pwl es) rec env bound = envelope_sound env (map (number code bound) es)
-sound_node code (node.Abs e) rec env bound = each_value sample_abs (rec e.0 env bound)
+sound_node code (node.Leaf w es) rec env bound = leaf_sound w env (map (number code bound) es)
+sound_node code (node.Effect w e es) rec env bound = effect_sound w (map (number code bound) es) (rec e.0 env bound)
 sound_node code (node.Cue e) rec env bound = cue_sound env (rec e.0 env bound)
-sound_node code (node.OnePole e a) rec env bound = one_pole (number code bound a) (rec e.0 env bound)
-sound_node code (node.Biquad e cs) rec env bound =
-    biquad (coefficients_of (map (number code bound) cs)) (rec e.0 env bound)
-sound_node code (node.Comb e delay gain) rec env bound =
-    comb_sound (number code bound delay) (number code bound gain) (rec e.0 env bound)
-sound_node code (node.Sim es) rec env bound =
-    mix env.sound_rate (parts_together env (map (part_of rec bound) es))
-sound_node code (node.Seq es) rec env bound =
-    mix env.sound_rate (parts_in_turn env (map (part_of rec bound) es))
-sound_node code (node.SimRep i n e) rec env bound =
-    mix env.sound_rate (parts_together env (repeated_parts rec bound i n e))
-sound_node code (node.SeqRep i n e) rec env bound =
-    mix env.sound_rate (parts_in_turn env (repeated_parts rec bound i n e))
-sound_node code (node.At t e) rec env bound = rec e.0 (shifted env (number code bound t)) bound
-sound_node code (node.Stretch k e) rec env bound = rec e.0 (stretched env (number code bound k)) bound
-sound_node code (node.Loud k e) rec env bound = rec e.0 (louder env (number code bound k)) bound
-sound_node code (node.Sustain k e) rec env bound = rec e.0 (sustained env (number code bound k)) bound
-sound_node code (node.Transpose k e) rec env bound = rec e.0 (transposed env (number code bound k)) bound
-sound_node code (node.Warp m e) rec env bound = rec e.0 (warped env m) bound
-sound_node code (node.SoundRate r e) rec env bound = rec e.0 (at_sound_rate env r) bound
-sound_node code (node.ControlRate r e) rec env bound = rec e.0 (at_control_rate env r) bound
+sound_node code (node.Mix o es) rec env bound = mix env.sound_rate (parts_in o env (map (part_of rec bound) es))
+sound_node code (node.Repeat o i n e) rec env bound =
+    mix env.sound_rate (parts_in o env (repeated_parts rec bound i n e))
+sound_node code (node.Change c e) rec env bound = rec e.0 (changed_env c (number code bound) env) bound
 sound_node code _ rec env bound = silence env.sound_rate
 
 -- the sound that an expression means; silence for one that is no sound

@@ -5,6 +5,8 @@ use Rattle.ny_num.specs.Sound.{Sound, placed}
 use Rattle.ny_num.specs.Resampling.{resampled}
 use Rattle.ny_warp.specs.declared.env.Env.{Env}
 use Rattle.ny_warp.specs.Environment.{from_stop}
+use Rattle.ny_resolve.specs.declared.builtin.Order.{Order}
+use Rattle.ny_resolve.specs.declared.builtin.Order.TheVariants as order
 
 -- a part in the environment, brought to the sound rate
 abbrev pub brought : Env → (Env → Sound) → Sound
@@ -31,3 +33,8 @@ abbrev pub parts_in_turn : Env → List (Env → Sound) → List Sound
 parts_in_turn env [] = []
 parts_in_turn env (part ∷ parts) =
     let sound = brought env part in sound ∷ parts_after env sound.stop parts
+
+-- all parts together, or one after the other
+abbrev pub parts_in : Order → Env → List (Env → Sound) → List Sound
+parts_in order.Together env parts = parts_together env parts
+parts_in order.InTurn env parts = parts_in_turn env parts

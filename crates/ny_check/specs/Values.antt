@@ -1,10 +1,9 @@
 -- The values of numbers and tests.
 use Rattle.std.specs.Prelude.{ℕ, List, [], ◌∷◌, ◌++◌, map, zip, Bool, false, if◌then◌else◌, ℤ, pos, int_lt, not, ◌&&◌, ◌||◌}
-use Rattle.std.specs.Int.{int_min, int_max}
 use Rattle.std.specs.Option.{unwrap_or}
 use Rattle.ny_scope.specs.Scopes.{last_of}
 use Rattle.ny_resolve.specs.Keys.{same_name}
-use Rattle.ny_num.specs.Numbers.{fix_add, fix_sub, fix_mul, fix_div, fix_neg}
+use Rattle.ny_num.specs.Numbers.{fix_div, fix_neg}
 use Rattle.ny_resolve.specs.declared.term.NameId.{NameId}
 use Rattle.ny_resolve.specs.declared.builtin.Relation.{Relation}
 use Rattle.ny_resolve.specs.declared.builtin.Relation.TheVariants.{Eq, Ne, Lt, Gt, Le, Ge}
@@ -17,6 +16,7 @@ use Rattle.ny_check.specs.declared.value.Value.{Value}
 use Rattle.ny_check.specs.declared.value.Value.TheVariants as value
 use Rattle.ny_check.specs.Code.{Code, node_at, function_at}
 use Rattle.ny_check.specs.Recursion.{by_smaller}
+use Rattle.ny_check.specs.Families.{fix_operation}
 
 -- what names stand for, the nearest last; a sound is not looked at
 abbrev pub Scalars : Type 0
@@ -101,11 +101,7 @@ scalar_node code (node.Global e) rec names = rec e.0 []
 scalar_node code (node.Call f es) rec names =
     rec (function_at code f.0).body.0 (zip (function_at code f.0).params (map (argument rec names) es))
 scalar_node code (node.Block bs e) rec names = rec e.0 (scalars_after rec bs names)
-scalar_node code (node.Add a b) rec names = of_numbers fix_add (rec a.0 names) (rec b.0 names)
-scalar_node code (node.Sub a b) rec names = of_numbers fix_sub (rec a.0 names) (rec b.0 names)
-scalar_node code (node.Mul a b) rec names = of_numbers fix_mul (rec a.0 names) (rec b.0 names)
-scalar_node code (node.Max a b) rec names = of_numbers int_max (rec a.0 names) (rec b.0 names)
-scalar_node code (node.Min a b) rec names = of_numbers int_min (rec a.0 names) (rec b.0 names)
+scalar_node code (node.Pair op a b) rec names = of_numbers (fix_operation op) (rec a.0 names) (rec b.0 names)
 scalar_node code (node.Div a v) rec names = of_number (λ x. fix_div x v) (rec a.0 names)
 scalar_node code (node.Neg a) rec names = of_number fix_neg (rec a.0 names)
 scalar_node code (node.Compare r a b) rec names = compared r (rec a.0 names) (rec b.0 names)

@@ -1,8 +1,7 @@
 -- The table of a text: the nodes of each part, and then the node itself.
 use Rattle.std.specs.List.{list_any}
-use Rattle.std.specs.Prelude.{ℕ, Bool, true, false, nat_eq, if◌then◌else◌, List, [], ◌∷◌, ◌++◌, length, get_or, Option, Some, None, ℤ, pos, int_lt, slice_get, ◌||◌}
+use Rattle.std.specs.Prelude.{ℕ, Bool, true, false, nat_eq, if◌then◌else◌, List, [], ◌∷◌, ◌++◌, length, Option, Some, None, ℤ, pos, int_lt, slice_get, ◌||◌}
 use Rattle.ny_num.specs.Grid.{ticks_of_micro}
-use Rattle.ny_num.specs.declared.rate.Rate.{Rate}
 use Rattle.ny_warp.specs.declared.map.Point.{Point}
 use Rattle.ny_warp.specs.Maps.{is_rising}
 use Rattle.ny_resolve.specs.declared.term.Term.TheFolds.{fold-Part, fold-Bound}
@@ -15,8 +14,14 @@ use Rattle.ny_resolve.specs.declared.builtin.Operator.{Operator}
 use Rattle.ny_resolve.specs.declared.builtin.Operator.TheVariants as op
 use Rattle.ny_resolve.specs.declared.builtin.Order.{Order}
 use Rattle.ny_resolve.specs.declared.builtin.Order.TheVariants as order
-use Rattle.ny_resolve.specs.declared.builtin.Rated.{Rated}
-use Rattle.ny_resolve.specs.declared.builtin.Rated.TheVariants as rated
+use Rattle.ny_kernels.specs.declared.operation.Op.TheVariants as pair
+use Rattle.ny_check.specs.declared.family.Family.{Family}
+use Rattle.ny_check.specs.declared.family.Family.TheVariants as family
+use Rattle.ny_check.specs.declared.node.Generator.TheVariants as generator
+use Rattle.ny_check.specs.declared.node.Effect.{Effect}
+use Rattle.ny_check.specs.declared.node.Effect.TheVariants as effect
+use Rattle.ny_check.specs.declared.node.Transformation.TheVariants as by
+use Rattle.ny_check.specs.declared.node.Change.TheVariants as change
 use Rattle.ny_check.specs.declared.node.Node.{Node}
 use Rattle.ny_check.specs.declared.node.Node.TheVariants as node
 use Rattle.ny_check.specs.declared.node.ExprId.{ExprId}
@@ -116,89 +121,87 @@ call_node n None ids = no_node
 
 -- ---- operators
 
-abbrev pub one_node : Operator → ExprId → Node
-one_node op.Neg a = node.Neg a
-one_node op.Not a = node.Not a
-one_node op.Rest a = node.Rest a
-one_node op.Ramp a = node.Ramp a
-one_node op.Abs a = node.Abs a
-one_node op.Cue a = node.Cue a
+-- The family of each operator. `scale` is a product; `e @ t` and `e ~ k` have their number last.
+abbrev pub family_of : Operator → Family
+family_of op.Add = family.Pair pair.Add
+family_of op.Sub = family.Pair pair.Sub
+family_of op.Mul = family.Pair pair.Mul
+family_of op.Scale = family.Pair pair.Mul
+family_of op.Max = family.Pair pair.Max
+family_of op.Min = family.Pair pair.Min
+family_of op.Neg = family.Neg
+family_of (op.Compare r) = family.Compare r
+family_of op.And = family.And
+family_of op.Or = family.Or
+family_of op.Not = family.Not
+family_of op.If = family.If
+family_of op.Const = family.Leaf generator.Const
+family_of op.Osc = family.Leaf generator.Osc
+family_of op.HzOsc = family.Leaf generator.HzOsc
+family_of op.Lfo = family.Leaf generator.Lfo
+family_of op.Noise = family.Leaf generator.Noise
+family_of op.Rest = family.Leaf generator.Rest
+family_of op.Ramp = family.Leaf generator.Ramp
+family_of op.Pwl = family.Leaf generator.Pwl
+family_of op.Abs = family.Effect effect.Abs
+family_of op.OnePole = family.Effect effect.OnePole
+family_of op.Biquad = family.Effect effect.Biquad
+family_of op.Comb = family.Effect effect.Comb
+family_of op.Cue = family.Cue
+family_of op.Sim = family.Mix order.Together
+family_of op.Seq = family.Mix order.InTurn
+family_of op.At = family.Change by.At
+family_of op.Stretch = family.Change by.Stretch
+family_of op.Loud = family.Change by.Loud
+family_of op.Sustain = family.Change by.Sustain
+family_of op.Transpose = family.Change by.Transpose
+family_of op.Placed = family.ChangeAfter by.At
+family_of op.Stretched = family.ChangeAfter by.Stretch
+family_of op.Vector = family.Vector
+
+abbrev pub one_node : Family → ExprId → Node
+one_node family.Neg a = node.Neg a
+one_node family.Not a = node.Not a
+one_node family.Cue a = node.Cue a
 one_node _ a = no_node
 
--- `scale` is a product; `e @ t` and `e ~ k` have their number first
-abbrev pub two_node : Operator → ExprId → ExprId → Node
-two_node op.Add a b = node.Add a b
-two_node op.Sub a b = node.Sub a b
-two_node op.Mul a b = node.Mul a b
-two_node op.Max a b = node.Max a b
-two_node op.Min a b = node.Min a b
-two_node (op.Compare r) a b = node.Compare r a b
-two_node op.And a b = node.And a b
-two_node op.Or a b = node.Or a b
-two_node op.Const a b = node.Const a b
-two_node op.Osc a b = node.Osc a b
-two_node op.HzOsc a b = node.HzOsc a b
-two_node op.Lfo a b = node.Lfo a b
-two_node op.Noise a b = node.Noise a b
-two_node op.Scale a b = node.Mul a b
-two_node op.OnePole a b = node.OnePole a b
-two_node op.At a b = node.At a b
-two_node op.Stretch a b = node.Stretch a b
-two_node op.Placed a b = node.At b a
-two_node op.Stretched a b = node.Stretch b a
-two_node op.Loud a b = node.Loud a b
-two_node op.Sustain a b = node.Sustain a b
-two_node op.Transpose a b = node.Transpose a b
+abbrev pub two_node : Family → ExprId → ExprId → Node
+two_node (family.Pair o) a b = node.Pair o a b
+two_node (family.Compare r) a b = node.Compare r a b
+two_node family.And a b = node.And a b
+two_node family.Or a b = node.Or a b
+two_node (family.Change t) a b = node.Change (change.By t a) b
+two_node (family.ChangeAfter t) a b = node.Change (change.By t b) a
 two_node _ a b = no_node
 
-abbrev pub three_node : Operator → ExprId → ExprId → ExprId → Node
-three_node op.If a b c = node.If a b c
-three_node op.Comb a b c = node.Comb a b c
+abbrev pub three_node : Family → ExprId → ExprId → ExprId → Node
+three_node family.If a b c = node.If a b c
 three_node _ a b c = no_node
 
-abbrev pub is_listed : Operator → Bool
-is_listed op.Pwl = true
-is_listed op.Sim = true
-is_listed op.Seq = true
-is_listed op.Vector = true
-is_listed _ = false
+-- one to three operands
+abbrev pub counted_node : Family → List ExprId → Node
+counted_node f (a ∷ []) = one_node f a
+counted_node f (a ∷ b ∷ []) = two_node f a b
+counted_node f (a ∷ b ∷ c ∷ []) = three_node f a b c
+counted_node f _ = no_node
 
-abbrev pub id_at : List ExprId → ℕ → ExprId
-id_at ids k = get_or ids k (record { 0 = 0 })
+-- the sound comes first
+abbrev pub effect_node : Effect → List ExprId → Node
+effect_node w (e ∷ ids) = node.Effect w e ids
+effect_node w [] = no_node
 
-abbrev pub six_node : Operator → List ExprId → Node
-six_node op.Biquad ids = node.Biquad (id_at ids 0) (id_at ids 1 ∷ id_at ids 2 ∷ id_at ids 3 ∷ id_at ids 4 ∷ id_at ids 5 ∷ [])
-six_node _ ids = no_node
-
--- an operator that has so many operands by its own nature
-abbrev pub counted_node : Operator → List ExprId → Node
-counted_node o ids =
-    if nat_eq (length ids) 1 then one_node o (id_at ids 0)
-    else (if nat_eq (length ids) 2 then two_node o (id_at ids 0) (id_at ids 1)
-    else (if nat_eq (length ids) 3 then three_node o (id_at ids 0) (id_at ids 1) (id_at ids 2)
-    else (if nat_eq (length ids) 6 then six_node o ids
-    else no_node)))
-
-abbrev pub list_node : Operator → List ExprId → Node
-list_node op.Pwl ids = node.Pwl ids
-list_node op.Sim ids = node.Sim ids
-list_node op.Seq ids = node.Seq ids
-list_node op.Vector ids = node.Vector ids
-list_node _ ids = no_node
+abbrev pub family_node : Family → List ExprId → Node
+family_node (family.Leaf w) ids = node.Leaf w ids
+family_node (family.Mix o) ids = node.Mix o ids
+family_node family.Vector ids = node.Vector ids
+family_node (family.Effect w) ids = effect_node w ids
+family_node f ids = counted_node f ids
 
 abbrev pub operator_node : Operator → List ExprId → Node
-operator_node o ids = if is_listed o then list_node o ids else counted_node o ids
+operator_node o ids = family_node (family_of o) ids
 
 abbrev pub quotient_node : ExprId → ℤ → Node
 quotient_node a v = if int_lt (pos 0) v then node.Div a v else no_node
-
-abbrev pub repeat_node : Order → NameId → ℕ → ExprId → Node
-repeat_node order.Together x n e = node.SimRep x n e
-repeat_node order.InTurn x n e = node.SeqRep x n e
-
-abbrev pub rate_node : Rated → Rate → ExprId → Node
-rate_node rated.Sound r e = node.SoundRate r e
-rate_node rated.Control r e = node.ControlRate r e
 
 -- the points that numbers are in pairs, where an x may wait for its y
 abbrev pub points_from : Option ℤ → List ℤ → List Point
@@ -211,7 +214,7 @@ abbrev pub points_of : List ℤ → List Point
 points_of vs = points_from None vs
 
 abbrev pub warp_node : List ℤ → ExprId → Node
-warp_node vs e = if is_rising (points_of vs) then node.Warp (points_of vs) e else no_node
+warp_node vs e = if is_rising (points_of vs) then node.Change (change.Warp (points_of vs)) e else no_node
 
 -- ---- expressions
 
@@ -244,7 +247,7 @@ term_writing (Term-F.Over a v) = record {
   uses = λ bound found. a.uses bound found;
 }
 term_writing (Term-F.Repeat o x n e) = record {
-  write = λ names fs t. let w = e.write (kept_names (is_in_turn o) e.uses) fs t in put (repeat_node o x n w.id) names w.table;
+  write = λ names fs t. let w = e.write (kept_names (is_in_turn o) e.uses) fs t in put (node.Repeat o x n w.id) names w.table;
   uses = λ bound found. e.uses (bound ++ x ∷ []) found;
 }
 term_writing (Term-F.Nameless e) = record { write = λ names fs t. e.write names fs t; uses = λ bound found. e.uses bound found }
@@ -253,7 +256,7 @@ term_writing (Term-F.Warp vs e) = record {
   uses = λ bound found. e.uses bound found;
 }
 term_writing (Term-F.Rate a r e) = record {
-  write = λ names fs t. let w = e.write [] fs t in put (rate_node a r w.id) names w.table;
+  write = λ names fs t. let w = e.write [] fs t in put (node.Change (change.Rate a r) w.id) names w.table;
   uses = λ bound found. e.uses bound found;
 }
 

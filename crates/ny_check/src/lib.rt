@@ -4,7 +4,9 @@
 #![tactic(auto)]
 
 mod accept;
+pub mod changes;
 mod draft;
+mod family;
 mod form;
 mod free;
 mod node;
@@ -15,7 +17,8 @@ mod value;
 mod write;
 
 pub use accept::{CheckFault, check, check_tree};
-pub use node::{ExprId, Function, FunctionId, Node};
-pub use ny_resolve::{CheckWhy, NameId, Relation};
+pub use node::{Change, Effect, ExprId, Function, FunctionId, Generator, Node, Transformation};
+pub use ny_kernels::Op;
+pub use ny_resolve::{CheckWhy, NameId, Order, Rated, Relation};
 pub use program::Program;
 pub use value::{Binds, Scalar, Value};

@@ -1,5 +1,6 @@
+use ny_kernels::Op;
 use ny_num::{Fix, Rate};
-use ny_resolve::{NameId, Relation};
+use ny_resolve::{NameId, Order, Rated, Relation};
 use ny_warp::Map;
 use sqlite_items::Items;
 
@@ -11,8 +12,50 @@ pub struct ExprId(pub u32);
 #[derive(Clone, Copy, Debug, PartialEq, Eq)]
 pub struct FunctionId(pub u32);
 
-/// An expression of an accepted text. The operands stand in the order of the arguments
-/// (`docs/LANGUAGE.md`, "Kinds"); literal counts, divisors, rates and maps are read.
+/// What makes a sound of numbers alone.
+#[derive(Clone, Copy, Debug, PartialEq, Eq)]
+pub enum Generator {
+    Const,
+    Osc,
+    HzOsc,
+    Lfo,
+    Noise,
+    Rest,
+    Ramp,
+    Pwl,
+}
+
+/// What makes a sound of one sound, at its own rate, and of numbers.
+#[derive(Clone, Copy, Debug, PartialEq, Eq)]
+pub enum Effect {
+    Abs,
+    OnePole,
+    Biquad,
+    Comb,
+}
+
+/// What changes an environment by a number.
+#[derive(Clone, Copy, Debug, PartialEq, Eq)]
+pub enum Transformation {
+    At,
+    Stretch,
+    Loud,
+    Sustain,
+    Transpose,
+}
+
+/// How the environment of an expression is changed.
+#[derive(Debug, Drop)]
+pub enum Change {
+    By(Transformation, ExprId),
+    Warp(Map),
+    Rate(Rated, Rate),
+}
+
+/// An expression of an accepted text, by its family (`docs/DEFINITIONS.md`, "Programs"): what the
+/// operators of a family share stands in the variant, and the operator is data. The operands stand in the
+/// order of the arguments (`docs/LANGUAGE.md`, "Kinds"), a change before what it changes; literal counts,
+/// divisors, rates and maps are read.
 #[derive(Debug, Drop)]
 pub enum Node {
     Number(Fix),
@@ -22,11 +65,8 @@ pub enum Node {
     Global(ExprId),
     Call(FunctionId, Items<ExprId>),
     Block(Items<(NameId, ExprId)>, ExprId),
-    Add(ExprId, ExprId),
-    Sub(ExprId, ExprId),
-    Mul(ExprId, ExprId),
-    Max(ExprId, ExprId),
-    Min(ExprId, ExprId),
+    /// Two numbers or sounds by one operation.
+    Pair(Op, ExprId, ExprId),
     /// Division by a literal above 0.
     Div(ExprId, Fix),
     Neg(ExprId),
@@ -35,32 +75,17 @@ pub enum Node {
     Or(ExprId, ExprId),
     Not(ExprId),
     If(ExprId, ExprId, ExprId),
-    Const(ExprId, ExprId),
-    Osc(ExprId, ExprId),
-    HzOsc(ExprId, ExprId),
-    Lfo(ExprId, ExprId),
-    Noise(ExprId, ExprId),
-    Rest(ExprId),
-    Ramp(ExprId),
-    Pwl(Items<ExprId>),
-    Abs(ExprId),
+    /// A sound that is made of these numbers.
+    Leaf(Generator, Items<ExprId>),
+    /// A sound, and the numbers after it.
+    Effect(Effect, ExprId, Items<ExprId>),
     Cue(ExprId),
-    OnePole(ExprId, ExprId),
-    /// The sound, and b0, b1, b2, a1, a2.
-    Biquad(ExprId, [ExprId; 5]),
-    Comb(ExprId, ExprId, ExprId),
-    Sim(Items<ExprId>),
-    Seq(Items<ExprId>),
-    SimRep(NameId, u32, ExprId),
-    SeqRep(NameId, u32, ExprId),
-    At(ExprId, ExprId),
-    Stretch(ExprId, ExprId),
-    Loud(ExprId, ExprId),
-    Sustain(ExprId, ExprId),
-    Transpose(ExprId, ExprId),
-    Warp(Map, ExprId),
-    SoundRate(Rate, ExprId),
-    ControlRate(Rate, ExprId),
+    /// `sim` and `seq`.
+    Mix(Order, Items<ExprId>),
+    /// `simrep` and `seqrep`: the counter, how often, and the part.
+    Repeat(Order, NameId, u32, ExprId),
+    /// An expression in another environment.
+    Change(Change, ExprId),
     Vector(Items<ExprId>),
 }
 

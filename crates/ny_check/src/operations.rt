@@ -2,87 +2,35 @@
 //! test (`docs/DEFINITIONS.md`, "Values").
 
 ghost use Rattle.std.specs.Prelude.{◌≡◌, pos, ◌<ℤ◌};
-ghost use Rattle.std.specs.Int.{int_min, int_max};
-ghost use Rattle.ny_num.specs.Numbers.{fix_add, fix_sub, fix_mul, fix_div, fix_neg};
+ghost use Rattle.ny_num.specs.Numbers.{fix_div, fix_neg};
+ghost use Rattle.ny_check.specs.Families.{fix_operation, number_at};
 ghost use Rattle.ny_check.specs.Values.{of_numbers, of_number, compared, of_tests, denied, both, either, is_true, number_in, passed, holds_between};
 
 use crate::value::Scalar;
+use ny_kernels::Op;
 use ny_num::Fix;
 use ny_resolve::Relation;
 
-/// The sum of two numbers.
-pub fn sum(a: Scalar, b: Scalar) -> Scalar
-    ensures { result ≡ of_numbers fix_add a b }
+/// What an operation makes of two numbers.
+fn operated(op: Op, a: Fix, b: Fix) -> Fix
+    ensures { result ≡ fix_operation op a b }
 {
-    match a {
-        Scalar::Number(a) => match b {
-            Scalar::Number(b) => Scalar::Number(a.add(b)),
-            _ => Scalar::Sound,
-        },
-        _ => Scalar::Sound,
+    match op {
+        Op::Add => a.add(b),
+        Op::Sub => a.sub(b),
+        Op::Mul => a.mul(b),
+        Op::Max => Fix::of(a.micro().max(b.micro())),
+        Op::Min => Fix::of(a.micro().min(b.micro())),
     }
 }
 
-/// The difference of two numbers.
-pub fn difference(a: Scalar, b: Scalar) -> Scalar
-    ensures { result ≡ of_numbers fix_sub a b }
+/// What an operation makes of two numbers.
+pub fn combined(op: Op, a: Scalar, b: Scalar) -> Scalar
+    ensures { result ≡ of_numbers (fix_operation op) a b }
 {
     match a {
         Scalar::Number(a) => match b {
-            Scalar::Number(b) => Scalar::Number(a.sub(b)),
-            _ => Scalar::Sound,
-        },
-        _ => Scalar::Sound,
-    }
-}
-
-/// The product of two numbers.
-pub fn product(a: Scalar, b: Scalar) -> Scalar
-    ensures { result ≡ of_numbers fix_mul a b }
-{
-    match a {
-        Scalar::Number(a) => match b {
-            Scalar::Number(b) => Scalar::Number(a.mul(b)),
-            _ => Scalar::Sound,
-        },
-        _ => Scalar::Sound,
-    }
-}
-
-/// The greater of two numbers.
-fn greater(a: Fix, b: Fix) -> Fix
-    ensures { result ≡ int_max a b }
-{
-    Fix::of(a.micro().max(b.micro()))
-}
-
-/// The smaller of two numbers.
-fn smaller(a: Fix, b: Fix) -> Fix
-    ensures { result ≡ int_min a b }
-{
-    Fix::of(a.micro().min(b.micro()))
-}
-
-/// The greater of two numbers.
-pub fn greatest(a: Scalar, b: Scalar) -> Scalar
-    ensures { result ≡ of_numbers int_max a b }
-{
-    match a {
-        Scalar::Number(a) => match b {
-            Scalar::Number(b) => Scalar::Number(greater(a, b)),
-            _ => Scalar::Sound,
-        },
-        _ => Scalar::Sound,
-    }
-}
-
-/// The smaller of two numbers.
-pub fn least(a: Scalar, b: Scalar) -> Scalar
-    ensures { result ≡ of_numbers int_min a b }
-{
-    match a {
-        Scalar::Number(a) => match b {
-            Scalar::Number(b) => Scalar::Number(smaller(a, b)),
+            Scalar::Number(b) => Scalar::Number(operated(op, a, b)),
             _ => Scalar::Sound,
         },
         _ => Scalar::Sound,
@@ -199,5 +147,16 @@ pub fn number_in(scalar: Scalar) -> Fix
     match scalar {
         Scalar::Number(v) => v,
         _ => Fix::of(0),
+    }
+}
+
+/// The number of an operator at a place among its numbers; 0 where it has none.
+pub fn number_at(numbers: &[Fix], k: usize) -> Fix
+    ensures { result ≡ number_at numbers.now k }
+{
+    if k < numbers.len() {
+        numbers[k]
+    } else {
+        Fix::of(0)
     }
 }

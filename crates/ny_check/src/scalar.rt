@@ -4,8 +4,7 @@ ghost use Rattle.ny_check.specs.Values.{Scalars, scalar_named, scalar_in, scalar
 
 use crate::node::{ExprId, Node};
 use crate::operations::{
-    and, compare, difference, greatest, holds, least, negated, not, number_in, or, passed, product,
-    quotient, sum,
+    and, combined, compare, holds, negated, not, number_in, or, passed, quotient,
 };
 use crate::program::Program;
 use crate::value::{Binds, Scalar, Value};
@@ -66,30 +65,10 @@ fn scalar(
             names.leave(outer);
             Ok(value)
         }
-        Node::Add(a, b) => {
+        Node::Pair(op, a, b) => {
             let a = scalar(alloc, p, *a, names)?;
             let b = scalar(alloc, p, *b, names)?;
-            Ok(sum(a, b))
-        }
-        Node::Sub(a, b) => {
-            let a = scalar(alloc, p, *a, names)?;
-            let b = scalar(alloc, p, *b, names)?;
-            Ok(difference(a, b))
-        }
-        Node::Mul(a, b) => {
-            let a = scalar(alloc, p, *a, names)?;
-            let b = scalar(alloc, p, *b, names)?;
-            Ok(product(a, b))
-        }
-        Node::Max(a, b) => {
-            let a = scalar(alloc, p, *a, names)?;
-            let b = scalar(alloc, p, *b, names)?;
-            Ok(greatest(a, b))
-        }
-        Node::Min(a, b) => {
-            let a = scalar(alloc, p, *a, names)?;
-            let b = scalar(alloc, p, *b, names)?;
-            Ok(least(a, b))
+            Ok(combined(*op, a, b))
         }
         Node::Div(a, by) => {
             let a = scalar(alloc, p, *a, names)?;

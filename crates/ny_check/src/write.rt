@@ -6,9 +6,9 @@ ghost use Rattle.ny_check.specs.Code.{BindsBelow, IsBelow};
 ghost use Rattle.ny_check.specs.Writing.{Written, WrittenParts, WrittenBinds, writing, writing_of_bind, write_parts, write_binds, global_node, call_node, body_of, is_seq, is_in_turn, kept_names, write_declared, empty, program_of};
 
 use crate::draft::Draft;
-use crate::form::{operator_node, quotient_node, rate_node, repeat_node, warp_node};
+use crate::form::{operator_node, quotient_node, warp_node};
 use crate::free::kept_names;
-use crate::node::{ExprId, Function, FunctionId, Node};
+use crate::node::{Change, ExprId, Function, FunctionId, Node};
 use crate::program::Program;
 use ny_num::Fix;
 use ny_resolve::{Bound, Declared, NameId, Operator, Order, Part, Term};
@@ -86,7 +86,8 @@ fn write(
         }
         Term::Apply(operator, parts) => {
             let ids = write_each(alloc, draft, parts.as_slice(), is_seq(*operator))?;
-            Ok(draft.put(operator_node(*operator, ids), names)?)
+            let node = operator_node(alloc, *operator, ids)?;
+            Ok(draft.put(node, names)?)
         }
         Term::Over(a, by) => {
             let a = write(alloc, draft, a.get(), Items::new(alloc))?;
@@ -95,7 +96,7 @@ fn write(
         Term::Repeat(order, x, count, part) => {
             let kept = kept_names(alloc, part.get(), is_in_turn(*order))?;
             let part = write(alloc, draft, part.get(), kept)?;
-            Ok(draft.put(repeat_node(*order, *x, *count, part), names)?)
+            Ok(draft.put(Node::Repeat(*order, *x, *count, part), names)?)
         }
         Term::Nameless(part) => Ok(write(alloc, draft, part.get(), names)?),
         Term::Warp(literals, part) => {
@@ -105,7 +106,8 @@ fn write(
         }
         Term::Rate(rated, rate, part) => {
             let part = write(alloc, draft, part.get(), Items::new(alloc))?;
-            Ok(draft.put(rate_node(*rated, *rate, part), names)?)
+            let change = Change::Rate(*rated, *rate);
+            Ok(draft.put(Node::Change(change, part), names)?)
         }
     }
 }

@@ -3,19 +3,20 @@ use Rattle.std.proofs.Common.{◌≡◌, ℕ, zero, suc, ◌+◌, ◌*◌, Bool,
 use Rattle.std.specs.Prelude.{if◌then◌else◌, zip, nat_lt, unwrap_or}
 use Rattle.std.specs.List.{range_with_len}
 use Rattle.ny_num.specs.Grid.{index_at}
-use Rattle.ny_num.specs.Numbers.{sample_add, sample_sub, sample_mul, sample_max, sample_min, sample_abs}
+use Rattle.ny_num.specs.Numbers.{sample_abs}
 use Rattle.ny_num.specs.declared.rate.Rate.{Rate}
 use Rattle.ny_num.specs.declared.timing.Timing.{Timing}
 use Rattle.ny_num.specs.Sound as sounds
-use Rattle.ny_num.specs.Sound.{timing_of, silence, placed, placed_timing, cued, sum_timing}
+use Rattle.ny_num.specs.Sound.{timing_of, silence, placed, placed_timing, cued}
 use Rattle.ny_num.specs.Leaves.{louder_value}
-use Rattle.ny_num.specs.Pointwise.{each_value, product_timing}
+use Rattle.ny_num.specs.Pointwise.{each_value}
 use Rattle.ny_num.specs.Resampling.{resampled, resampled_timing}
 use Rattle.ny_num.specs.Filters.{comb_delay}
 use Rattle.ny_num.specs.Mix.{mix, mix_timing}
 use Rattle.ny_num.proofs.SoundTimings.{timing_of-sound_of, timing_of-leaf, timing_of-silence, timing_of-placed, timing_of-cued, timing_of-combined, timing_of-each_value, timing_of-resampled, timing_of-one_pole, timing_of-biquad, timing_of-comb, timing_of-mix}
 use Rattle.ny_warp.specs.declared.env.Env.{Env}
-use Rattle.ny_warp.specs.Environment.{from_stop, shifted, stretched, louder, sustained, transposed, warped, at_sound_rate, at_control_rate}
+use Rattle.ny_warp.specs.Environment.{from_stop}
+use Rattle.ny_kernels.specs.Operations.{operation}
 use Rattle.ny_resolve.specs.declared.term.NameId.{NameId}
 use Rattle.ny_scope.specs.Scopes.{last_of}
 use Rattle.ny_scope.proofs.Mapped.{with_value, last_of-with}
@@ -23,6 +24,12 @@ use Rattle.ny_resolve.specs.Keys.{same_name}
 use Rattle.ny_check.specs.declared.node.Node.{Node}
 use Rattle.ny_check.specs.declared.node.Node.TheVariants as node
 use Rattle.ny_check.specs.declared.node.ExprId.{ExprId}
+use Rattle.ny_check.specs.declared.node.Generator.{Generator}
+use Rattle.ny_check.specs.declared.node.Generator.TheVariants as generator
+use Rattle.ny_check.specs.declared.node.Effect.{Effect}
+use Rattle.ny_check.specs.declared.node.Effect.TheVariants as effect
+use Rattle.ny_resolve.specs.declared.builtin.Order.{Order}
+use Rattle.ny_resolve.specs.declared.builtin.Order.TheVariants as order
 use Rattle.ny_check.specs.declared.value.Scalar.{Scalar}
 use Rattle.ny_check.specs.declared.value.Scalar.TheVariants as scalar
 use Rattle.ny_check.specs.declared.value.Value.{Value}
@@ -31,10 +38,11 @@ use Rattle.ny_check.specs.Code.{Code, node_at, function_at}
 use Rattle.ny_check.specs.Recursion.{below, turns, by_smaller}
 use Rattle.ny_check.specs.Values.{Scalars, scalars_of, scalar_of, number_of, test_of, scalar_in}
 use Rattle.ny_check.specs.Behaviours.{const_sound, rest_sound, ramp_sound, osc_sound, hzosc_sound, lfo_sound, noise_sound, envelope_sound, cue_sound, cue_timing, cue_shift, is_one, sustained_timing, plain_timing, rest_timing, envelope_end}
-use Rattle.ny_check.specs.Parts.{parts_together, parts_in_turn, parts_after, brought, next_part}
+use Rattle.ny_check.specs.Families.{number_at, pair_timing, leaf_sound, leaf_time, effect_sound, changed_env}
+use Rattle.ny_check.specs.Parts.{parts_together, parts_in_turn, parts_in, parts_after, brought, next_part}
 use Rattle.ny_check.specs.Meaning as meant
-use Rattle.ny_check.specs.Meaning.{Bound, Means, meaning, sound_node, value_of, value_by, bound_after, combined_values, negated_value, comb_sound, coefficients_of, part_of, repeated_part, repeated_parts, sound_in}
-use Rattle.ny_timing.specs.Timings.{Timed, Times, timed, timed_value, timing_in, timed_by, timed_value_of, timed_after, combined_times, negated_time, times_after, times_in_turn, times_together, brought_time, next_time, time_of_part, time_of_repeat, times_of_repeats, timing_node, timing_at, no_time}
+use Rattle.ny_check.specs.Meaning.{Bound, Means, meaning, sound_node, value_of, value_by, bound_after, combined_values, negated_value, part_of, repeated_part, repeated_parts, sound_in}
+use Rattle.ny_timing.specs.Timings.{Timed, Times, timed, timed_value, timing_in, timed_by, timed_value_of, timed_after, combined_times, negated_time, times_after, times_in_turn, times_together, times_in, brought_time, next_time, time_of_part, time_of_repeat, times_of_repeats, timing_node, timing_at, no_time}
 
 -- ---- names
 
@@ -108,6 +116,24 @@ timing_of-ramp env d = timing_of-leaf _ _
 timing_of-envelope : (env : Env) (numbers : List ℤ) → timing_of (envelope_sound env numbers) ≡ plain_timing env.control_rate env (envelope_end numbers)
 unfolding envelope_sound
 timing_of-envelope env numbers = timing_of-sound_of _ _
+
+-- each leaf is heard by its row
+timing_of-leaf_sound : (w : Generator) (env : Env) (ns : List ℤ) → timing_of (leaf_sound w env ns) ≡ leaf_time w env ns
+timing_of-leaf_sound generator.Const env ns = timing_of-const env _ _
+timing_of-leaf_sound generator.Osc env ns = timing_of-osc env _ _
+timing_of-leaf_sound generator.HzOsc env ns = timing_of-hzosc env _ _
+timing_of-leaf_sound generator.Lfo env ns = timing_of-lfo env _ _
+timing_of-leaf_sound generator.Noise env ns = timing_of-noise env _ _
+timing_of-leaf_sound generator.Rest env ns = timing_of-rest env _
+timing_of-leaf_sound generator.Ramp env ns = timing_of-ramp env _
+timing_of-leaf_sound generator.Pwl env ns = timing_of-envelope env ns
+
+-- an effect is heard when its sound is heard
+timing_of-effect : (w : Effect) (ns : List ℤ) (s : sounds.Sound) → timing_of (effect_sound w ns s) ≡ timing_of s
+timing_of-effect effect.Abs ns s = timing_of-each_value sample_abs s
+timing_of-effect effect.OnePole ns s = timing_of-one_pole _ s
+timing_of-effect effect.Biquad ns s = timing_of-biquad _ s
+timing_of-effect effect.Comb ns s = timing_of-comb (comb_delay s.rate (number_at ns 0)) (number_at ns 1) s
 
 rate_of : (s : sounds.Sound) → (timing_of s).rate ≡ s.rate
 unfolding timing_of
@@ -244,6 +270,10 @@ mix_together-timed env ps ts h = timing_of-mix env.sound_rate (parts_together en
 mix_in_turn-timed : (env : Env) (ps : List (Env → sounds.Sound)) (ts : List (Env → Timing)) → SameTimes ps ts → timing_of (mix env.sound_rate (parts_in_turn env ps)) ≡ mix_timing env.sound_rate (times_in_turn env ts)
 mix_in_turn-timed env ps ts h = timing_of-mix env.sound_rate (parts_in_turn env ps) ∙ ap (mix_timing env.sound_rate) (in_turn-timed env ps ts h)
 
+mix_in-timed : (o : Order) (env : Env) (ps : List (Env → sounds.Sound)) (ts : List (Env → Timing)) → SameTimes ps ts → timing_of (mix env.sound_rate (parts_in o env ps)) ≡ mix_timing env.sound_rate (times_in o env ts)
+mix_in-timed order.Together env ps ts h = mix_together-timed env ps ts h
+mix_in-timed order.InTurn env ps ts h = mix_in_turn-timed env ps ts h
+
 -- ---- nodes
 
 timing_of-if : (b : Bool) (s t : sounds.Sound) (u v : Timing) → timing_of s ≡ u → timing_of t ≡ v → timing_of (if b then s else t) ≡ (if b then u else v)
@@ -268,46 +298,22 @@ sound_node-timed code f g h (node.Block bs e) env bound =
     h.at e.0 env (bound_after code f env bs bound) ∙ ap (g e.0 env) (bound_after-timed code f g h env bs bound)
 sound_node-timed code f g h (node.If c a b) env bound =
     rw (scalars_of-timed bound) (timing_of-if (test_of code c (scalars_of bound)) (f a.0 env bound) (f b.0 env bound) (g a.0 env (timed bound)) (g b.0 env (timed bound)) (h.at a.0 env bound) (h.at b.0 env bound))
-sound_node-timed code f g h (node.Add a b) env bound = pair-timed code f g h sum_timing sample_add env bound a b
-sound_node-timed code f g h (node.Sub a b) env bound = pair-timed code f g h sum_timing sample_sub env bound a b
-sound_node-timed code f g h (node.Mul a b) env bound = pair-timed code f g h product_timing sample_mul env bound a b
-sound_node-timed code f g h (node.Max a b) env bound = pair-timed code f g h sum_timing sample_max env bound a b
-sound_node-timed code f g h (node.Min a b) env bound = pair-timed code f g h sum_timing sample_min env bound a b
+sound_node-timed code f g h (node.Pair op a b) env bound = pair-timed code f g h (pair_timing op) (operation op) env bound a b
 sound_node-timed code f g h (node.Neg a) env bound =
     timing_of-negated env.sound_rate (value_of code f env bound a)
     ∙ ap (negated_time env.sound_rate) (value_of-timed code f g h env bound a)
-sound_node-timed code f g h (node.Const v d) env bound = rw (scalars_of-timed bound) (timing_of-const env (meant.number code bound v) (meant.number code bound d))
-sound_node-timed code f g h (node.Osc v d) env bound = rw (scalars_of-timed bound) (timing_of-osc env (meant.number code bound v) (meant.number code bound d))
-sound_node-timed code f g h (node.HzOsc v d) env bound = rw (scalars_of-timed bound) (timing_of-hzosc env (meant.number code bound v) (meant.number code bound d))
-sound_node-timed code f g h (node.Lfo v d) env bound = rw (scalars_of-timed bound) (timing_of-lfo env (meant.number code bound v) (meant.number code bound d))
-sound_node-timed code f g h (node.Noise v d) env bound = rw (scalars_of-timed bound) (timing_of-noise env (meant.number code bound v) (meant.number code bound d))
-sound_node-timed code f g h (node.Rest d) env bound = rw (scalars_of-timed bound) (timing_of-rest env (meant.number code bound d))
-sound_node-timed code f g h (node.Ramp d) env bound = rw (scalars_of-timed bound) (timing_of-ramp env (meant.number code bound d))
-sound_node-timed code f g h (node.Pwl es) env bound =
-    timing_of-envelope env (map (meant.number code bound) es)
-    ∙ ap (λ (names : Scalars). plain_timing env.control_rate env (envelope_end (map (λ (e : ExprId). number_of code e names) es))) (sym (scalars_of-timed bound))
-sound_node-timed code f g h (node.Abs e) env bound = timing_of-each_value sample_abs (f e.0 env bound) ∙ h.at e.0 env bound
+sound_node-timed code f g h (node.Leaf w es) env bound =
+    timing_of-leaf_sound w env (map (meant.number code bound) es)
+    ∙ ap (λ (names : Scalars). leaf_time w env (map (λ (e : ExprId). number_of code e names) es)) (sym (scalars_of-timed bound))
+sound_node-timed code f g h (node.Effect w e es) env bound = timing_of-effect w (map (meant.number code bound) es) (f e.0 env bound) ∙ h.at e.0 env bound
 sound_node-timed code f g h (node.Cue e) env bound = timing_of-cue env (f e.0 env bound) ∙ ap (cue_timing env) (h.at e.0 env bound)
-sound_node-timed code f g h (node.OnePole e a) env bound = timing_of-one_pole (meant.number code bound a) (f e.0 env bound) ∙ h.at e.0 env bound
-sound_node-timed code f g h (node.Biquad e cs) env bound = timing_of-biquad (coefficients_of (map (meant.number code bound) cs)) (f e.0 env bound) ∙ h.at e.0 env bound
-sound_node-timed code f g h (node.Comb e delay gain) env bound =
-    timing_of-comb (comb_delay (f e.0 env bound).rate (meant.number code bound delay)) (meant.number code bound gain) (f e.0 env bound) ∙ h.at e.0 env bound
-sound_node-timed code f g h (node.Sim es) env bound =
-    mix_together-timed env (map (part_of f bound) es) (map (time_of_part g (timed bound)) es) (same_parts f g h bound es)
-sound_node-timed code f g h (node.Seq es) env bound =
-    mix_in_turn-timed env (map (part_of f bound) es) (map (time_of_part g (timed bound)) es) (same_parts f g h bound es)
-sound_node-timed code f g h (node.SimRep i n e) env bound =
-    mix_together-timed env (repeated_parts f bound i n e) (times_of_repeats g (timed bound) i n e) (same_repeats f g h bound i e (range_with_len 0 n))
-sound_node-timed code f g h (node.SeqRep i n e) env bound =
-    mix_in_turn-timed env (repeated_parts f bound i n e) (times_of_repeats g (timed bound) i n e) (same_repeats f g h bound i e (range_with_len 0 n))
-sound_node-timed code f g h (node.At t e) env bound = rw (scalars_of-timed bound) (h.at e.0 (shifted env (meant.number code bound t)) bound)
-sound_node-timed code f g h (node.Stretch k e) env bound = rw (scalars_of-timed bound) (h.at e.0 (stretched env (meant.number code bound k)) bound)
-sound_node-timed code f g h (node.Loud k e) env bound = rw (scalars_of-timed bound) (h.at e.0 (louder env (meant.number code bound k)) bound)
-sound_node-timed code f g h (node.Sustain k e) env bound = rw (scalars_of-timed bound) (h.at e.0 (sustained env (meant.number code bound k)) bound)
-sound_node-timed code f g h (node.Transpose k e) env bound = rw (scalars_of-timed bound) (h.at e.0 (transposed env (meant.number code bound k)) bound)
-sound_node-timed code f g h (node.Warp m e) env bound = h.at e.0 (warped env m) bound
-sound_node-timed code f g h (node.SoundRate r e) env bound = h.at e.0 (at_sound_rate env r) bound
-sound_node-timed code f g h (node.ControlRate r e) env bound = h.at e.0 (at_control_rate env r) bound
+sound_node-timed code f g h (node.Mix o es) env bound =
+    mix_in-timed o env (map (part_of f bound) es) (map (time_of_part g (timed bound)) es) (same_parts f g h bound es)
+sound_node-timed code f g h (node.Repeat o i n e) env bound =
+    mix_in-timed o env (repeated_parts f bound i n e) (times_of_repeats g (timed bound) i n e) (same_repeats f g h bound i e (range_with_len 0 n))
+sound_node-timed code f g h (node.Change c e) env bound =
+    h.at e.0 (changed_env c (meant.number code bound) env) bound
+    ∙ ap (λ (names : Scalars). g e.0 (changed_env c (λ (k : ExprId). number_of code k names) env) (timed bound)) (sym (scalars_of-timed bound))
 sound_node-timed code f g h _ env bound = timing_of-silence env.sound_rate
 
 -- ---- the recursion

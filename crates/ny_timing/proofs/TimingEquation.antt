@@ -12,7 +12,7 @@ use Rattle.ny_check.specs.Code.{Code, node_at, function_at, IsBelow, AllBelow, B
 use Rattle.ny_check.specs.Recursion.{below}
 use Rattle.ny_check.specs.Values.{scalars_of, scalar_of}
 use Rattle.ny_check.proofs.Smaller.{below-at, by_smaller-is}
-use Rattle.ny_timing.specs.Timings.{Timed, Times, timing_at, timing_node, timed_value_of, timed_by, timed_after, times_in_turn, times_together, time_of_part, times_of_repeats, no_time}
+use Rattle.ny_timing.specs.Timings.{Timed, Times, timing_at, timing_node, timed_value_of, timed_by, timed_after, times_in, time_of_part, times_of_repeats, no_time}
 
 timed_value_of-below : (code : Code) (n : ℕ) (other : Times) (f : ℕ → Times) (env : Env) (bound : Timed) (e : ExprId) → e.0 < n → timed_value_of code (below n other f) env bound e ≡ timed_value_of code f env bound e
 timed_value_of-below code n other f env bound e h =
@@ -45,29 +45,13 @@ pub timing_node-below : (code : Code) (n : ℕ) (other : Times) (f : ℕ → Tim
 timing_node-below code n other f (node.Call g es) env bound h = rw (timed_values-below code n other f env bound es h.0, below-at n (function_at code g.0).body.0 other f h.2)
 timing_node-below code n other f (node.Block bs e) env bound h = rw (timed_after-below code n other f env bs bound h.0, below-at n e.0 other f h.1)
 timing_node-below code n other f (node.If c a b) env bound h = rw (below-at n a.0 other f h.1, below-at n b.0 other f h.2)
-timing_node-below code n other f (node.Add a b) env bound h = rw (timed_value_of-below code n other f env bound a h.0, timed_value_of-below code n other f env bound b h.1)
-timing_node-below code n other f (node.Sub a b) env bound h = rw (timed_value_of-below code n other f env bound a h.0, timed_value_of-below code n other f env bound b h.1)
-timing_node-below code n other f (node.Mul a b) env bound h = rw (timed_value_of-below code n other f env bound a h.0, timed_value_of-below code n other f env bound b h.1)
-timing_node-below code n other f (node.Max a b) env bound h = rw (timed_value_of-below code n other f env bound a h.0, timed_value_of-below code n other f env bound b h.1)
-timing_node-below code n other f (node.Min a b) env bound h = rw (timed_value_of-below code n other f env bound a h.0, timed_value_of-below code n other f env bound b h.1)
+timing_node-below code n other f (node.Pair op a b) env bound h = rw (timed_value_of-below code n other f env bound a h.0, timed_value_of-below code n other f env bound b h.1)
 timing_node-below code n other f (node.Neg a) env bound h = rw (timed_value_of-below code n other f env bound a h)
-timing_node-below code n other f (node.Abs e) env bound h = rw (below-at n e.0 other f h)
+timing_node-below code n other f (node.Effect w e es) env bound h = rw (below-at n e.0 other f h.0)
 timing_node-below code n other f (node.Cue e) env bound h = rw (below-at n e.0 other f h)
-timing_node-below code n other f (node.OnePole e a) env bound h = rw (below-at n e.0 other f h.0)
-timing_node-below code n other f (node.Biquad e cs) env bound h = rw (below-at n e.0 other f h.0)
-timing_node-below code n other f (node.Comb e d g) env bound h = rw (below-at n e.0 other f h.0)
-timing_node-below code n other f (node.Sim es) env bound h = ap (λ ps. mix_timing env.sound_rate (times_together env ps)) (times-below n other f bound es h)
-timing_node-below code n other f (node.Seq es) env bound h = ap (λ ps. mix_timing env.sound_rate (times_in_turn env ps)) (times-below n other f bound es h)
-timing_node-below code n other f (node.SimRep i k e) env bound h = ap (λ ps. mix_timing env.sound_rate (times_together env ps)) (repeats-below n other f bound i k e h)
-timing_node-below code n other f (node.SeqRep i k e) env bound h = ap (λ ps. mix_timing env.sound_rate (times_in_turn env ps)) (repeats-below n other f bound i k e h)
-timing_node-below code n other f (node.At t e) env bound h = rw (below-at n e.0 other f h.1)
-timing_node-below code n other f (node.Stretch k e) env bound h = rw (below-at n e.0 other f h.1)
-timing_node-below code n other f (node.Loud k e) env bound h = rw (below-at n e.0 other f h.1)
-timing_node-below code n other f (node.Sustain k e) env bound h = rw (below-at n e.0 other f h.1)
-timing_node-below code n other f (node.Transpose k e) env bound h = rw (below-at n e.0 other f h.1)
-timing_node-below code n other f (node.Warp m e) env bound h = rw (below-at n e.0 other f h)
-timing_node-below code n other f (node.SoundRate r e) env bound h = rw (below-at n e.0 other f h)
-timing_node-below code n other f (node.ControlRate r e) env bound h = rw (below-at n e.0 other f h)
+timing_node-below code n other f (node.Mix o es) env bound h = ap (λ ps. mix_timing env.sound_rate (times_in o env ps)) (times-below n other f bound es h)
+timing_node-below code n other f (node.Repeat o i k e) env bound h = ap (λ ps. mix_timing env.sound_rate (times_in o env ps)) (repeats-below n other f bound i k e h)
+timing_node-below code n other f (node.Change c e) env bound h = rw (below-at n e.0 other f h.1)
 timing_node-below code n other f _ env bound h = refl
 
 pub timing_at-is : (code : Code) (e : ℕ) (env : Env) (bound : Timed) → IsBelow code.functions e (node_at code e) → timing_at code e env bound ≡ timing_node code (node_at code e) (timing_at code) env bound

@@ -6,14 +6,15 @@ use Rattle.ny_num.specs.Grid.{index_at}
 use Rattle.ny_num.specs.declared.rate.Rate.{Rate}
 use Rattle.ny_num.specs.declared.timing.Timing.{Timing}
 use Rattle.ny_num.specs.Sound as sounds
-use Rattle.ny_num.specs.Sound.{IsTiming, timing_of, sum_timing, placed_timing}
-use Rattle.ny_num.specs.Pointwise.{product_timing}
+use Rattle.ny_num.specs.Sound.{IsTiming, timing_of, placed_timing}
 use Rattle.ny_num.specs.Resampling.{resampled_timing}
 use Rattle.ny_num.specs.Mix.{mix_timing}
 use Rattle.ny_warp.specs.declared.env.Env.{Env}
-use Rattle.ny_warp.specs.Environment.{from_stop, shifted, stretched, louder, sustained, transposed, warped, at_sound_rate, at_control_rate}
+use Rattle.ny_warp.specs.Environment.{from_stop}
 use Rattle.ny_scope.specs.Scopes.{last_of}
 use Rattle.ny_resolve.specs.declared.term.NameId.{NameId}
+use Rattle.ny_resolve.specs.declared.builtin.Order.{Order}
+use Rattle.ny_resolve.specs.declared.builtin.Order.TheVariants as order
 use Rattle.ny_resolve.specs.Keys.{same_name}
 use Rattle.ny_check.specs.declared.node.Node.{Node}
 use Rattle.ny_check.specs.declared.node.Node.TheVariants as node
@@ -25,7 +26,8 @@ use Rattle.ny_check.specs.declared.value.Value.TheVariants.{Number, Sound}
 use Rattle.ny_check.specs.Code.{Code, node_at, function_at}
 use Rattle.ny_check.specs.Recursion.{by_smaller}
 use Rattle.ny_check.specs.Values.{scalars_of, scalar_of, number_of, test_of}
-use Rattle.ny_check.specs.Behaviours.{sustained_timing, plain_timing, rest_timing, envelope_end, cue_timing}
+use Rattle.ny_check.specs.Behaviours.{cue_timing}
+use Rattle.ny_check.specs.Families.{pair_timing, leaf_time, changed_env}
 use Rattle.ny_check.specs.Meaning.{Bound}
 
 -- ---- names
@@ -131,6 +133,11 @@ abbrev pub times_in_turn : Env → List (Env → Timing) → List Timing
 times_in_turn env [] = []
 times_in_turn env (part ∷ parts) = let t = brought_time env part in t ∷ times_after env t.stop parts
 
+-- all parts together, or one after the other
+abbrev pub times_in : Order → Env → List (Env → Timing) → List Timing
+times_in order.Together env parts = times_together env parts
+times_in order.InTurn env parts = times_in_turn env parts
+
 -- a part of `sim` or `seq`, from an environment
 abbrev pub time_of_part : (ℕ → Times) → Timed → ExprId → Env → Timing
 time_of_part rec bound e from = rec e.0 from bound
@@ -143,53 +150,19 @@ time_of_repeat rec bound i e k from = rec e.0 from (bound ++ (i, Number (pos (k 
 abbrev pub times_of_repeats : (ℕ → Times) → Timed → NameId → ℕ → ExprId → List (Env → Timing)
 times_of_repeats rec bound i count e = map (time_of_repeat rec bound i e) (range_with_len 0 count)
 
--- ---- expressions, in groups
+-- ---- expressions
 
--- transformations
-abbrev pub changed_time : Code → Node → (ℕ → Times) → Times
-changed_time code (node.At t e) rec env bound = rec e.0 (shifted env (number code bound t)) bound
-changed_time code (node.Stretch k e) rec env bound = rec e.0 (stretched env (number code bound k)) bound
-changed_time code (node.Loud k e) rec env bound = rec e.0 (louder env (number code bound k)) bound
-changed_time code (node.Sustain k e) rec env bound = rec e.0 (sustained env (number code bound k)) bound
-changed_time code (node.Transpose k e) rec env bound = rec e.0 (transposed env (number code bound k)) bound
-changed_time code (node.Warp m e) rec env bound = rec e.0 (warped env m) bound
-changed_time code (node.SoundRate r e) rec env bound = rec e.0 (at_sound_rate env r) bound
-changed_time code (node.ControlRate r e) rec env bound = rec e.0 (at_control_rate env r) bound
-changed_time code _ rec env bound = no_time env.sound_rate
-
--- mixes and sequences
-abbrev pub mixed_time : Code → Node → (ℕ → Times) → Times
-mixed_time code (node.Sim es) rec env bound =
-    mix_timing env.sound_rate (times_together env (map (time_of_part rec bound) es))
-mixed_time code (node.Seq es) rec env bound =
-    mix_timing env.sound_rate (times_in_turn env (map (time_of_part rec bound) es))
-mixed_time code (node.SimRep i n e) rec env bound =
-    mix_timing env.sound_rate (times_together env (times_of_repeats rec bound i n e))
-mixed_time code (node.SeqRep i n e) rec env bound =
-    mix_timing env.sound_rate (times_in_turn env (times_of_repeats rec bound i n e))
-mixed_time code at rec env bound = changed_time code at rec env bound
-
--- filters, `s-abs` and `cue`: what is made of one sound at its own rate
-abbrev pub derived_time : Code → Node → (ℕ → Times) → Times
-derived_time code (node.Abs e) rec env bound = rec e.0 env bound
-derived_time code (node.Cue e) rec env bound = cue_timing env (rec e.0 env bound)
-derived_time code (node.OnePole e a) rec env bound = rec e.0 env bound
-derived_time code (node.Biquad e cs) rec env bound = rec e.0 env bound
-derived_time code (node.Comb e delay gain) rec env bound = rec e.0 env bound
-derived_time code at rec env bound = mixed_time code at rec env bound
-
--- leaves
-abbrev pub leaf_time : Code → Node → (ℕ → Times) → Times
-leaf_time code (node.Const v d) rec env bound = sustained_timing env.sound_rate env (number code bound d)
-leaf_time code (node.Osc key d) rec env bound = sustained_timing env.sound_rate env (number code bound d)
-leaf_time code (node.HzOsc hz d) rec env bound = sustained_timing env.sound_rate env (number code bound d)
-leaf_time code (node.Noise v d) rec env bound = sustained_timing env.sound_rate env (number code bound d)
-leaf_time code (node.Lfo hz d) rec env bound = sustained_timing env.control_rate env (number code bound d)
-leaf_time code (node.Rest d) rec env bound = rest_timing env (number code bound d)
-leaf_time code (node.Ramp d) rec env bound = plain_timing env.control_rate env (number code bound d)
-leaf_time code (node.Pwl es) rec env bound =
-    plain_timing env.control_rate env (envelope_end (map (number code bound) es))
-leaf_time code at rec env bound = derived_time code at rec env bound
+-- expressions that are always a sound: leaves, effects, cues, mixes and changes
+abbrev pub sounding_time : Code → Node → (ℕ → Times) → Times
+sounding_time code (node.Leaf w es) rec env bound = leaf_time w env (map (number code bound) es)
+sounding_time code (node.Effect w e es) rec env bound = rec e.0 env bound
+sounding_time code (node.Cue e) rec env bound = cue_timing env (rec e.0 env bound)
+sounding_time code (node.Mix o es) rec env bound =
+    mix_timing env.sound_rate (times_in o env (map (time_of_part rec bound) es))
+sounding_time code (node.Repeat o i n e) rec env bound =
+    mix_timing env.sound_rate (times_in o env (times_of_repeats rec bound i n e))
+sounding_time code (node.Change c e) rec env bound = rec e.0 (changed_env c (number code bound) env) bound
+sounding_time code _ rec env bound = no_time env.sound_rate
 
 -- when a node is heard, by when the nodes before it are heard
 abbrev pub timing_node : Code → Node → (ℕ → Times) → Times
@@ -203,18 +176,11 @@ timing_node code (node.Call f es) rec env bound =
 timing_node code (node.Block bs e) rec env bound = rec e.0 env (timed_after code rec env bs bound)
 timing_node code (node.If c a b) rec env bound =
     if test_of code c (scalars_of bound) then rec a.0 env bound else rec b.0 env bound
-timing_node code (node.Add a b) rec env bound =
-    combined_times sum_timing env.sound_rate (timed_value_of code rec env bound a) (timed_value_of code rec env bound b)
-timing_node code (node.Sub a b) rec env bound =
-    combined_times sum_timing env.sound_rate (timed_value_of code rec env bound a) (timed_value_of code rec env bound b)
-timing_node code (node.Mul a b) rec env bound =
-    combined_times product_timing env.sound_rate (timed_value_of code rec env bound a) (timed_value_of code rec env bound b)
-timing_node code (node.Max a b) rec env bound =
-    combined_times sum_timing env.sound_rate (timed_value_of code rec env bound a) (timed_value_of code rec env bound b)
-timing_node code (node.Min a b) rec env bound =
-    combined_times sum_timing env.sound_rate (timed_value_of code rec env bound a) (timed_value_of code rec env bound b)
+timing_node code (node.Pair op a b) rec env bound =
+    combined_times (pair_timing op) env.sound_rate
+    (timed_value_of code rec env bound a) (timed_value_of code rec env bound b)
 timing_node code (node.Neg a) rec env bound = negated_time env.sound_rate (timed_value_of code rec env bound a)
-timing_node code at rec env bound = leaf_time code at rec env bound
+timing_node code at rec env bound = sounding_time code at rec env bound
 
 -- when an expression is heard, by recursion on the nodes before it
 unfoldable pub timing_at : Code → ℕ → Times

@@ -7,23 +7,20 @@ ghost use Rattle.ny_num.specs.Sound.{IsTiming, placed_timing};
 ghost use Rattle.ny_num.specs.Grid.{index_at};
 ghost use Rattle.ny_num.specs.Resampling.{resampled_timing};
 ghost use Rattle.ny_warp.specs.Environment.{from_stop};
-ghost use Rattle.ny_check.specs.Code.{node_at, function_at, AllBelow, BindsBelow};
-ghost use Rattle.ny_check.specs.Values.{scalars_of, scalar_of, scalars_after, argument, number_of};
+ghost use Rattle.ny_check.specs.Code.{node_at, function_at, AllBelow, BindsBelow, IsChangeBelow};
+ghost use Rattle.ny_check.specs.Families.{fix_operation, pair_timing, changed_env};
+ghost use Rattle.ny_check.specs.Values.{scalars_of, scalar_of, scalars_after, argument, number_of, of_numbers};
 ghost use Rattle.ny_check.specs.declared.value.Value.TheVariants as value;
-ghost use Rattle.ny_check.specs.Behaviours.{sustained_timing};
-ghost use Rattle.ny_timing.specs.Timings.{IsTimingAt, IsTimedValue, timing_at, timed_value_of, timed_after, no_time, time_of_part, time_of_repeat, times_of_repeats, times_together, times_in_turn, leaf_time, derived_time, mixed_time, changed_time, number};
+ghost use Rattle.ny_timing.specs.Timings.{IsTimingAt, IsTimedValue, timing_at, timed_value_of, timed_after, no_time, time_of_part, time_of_repeat, times_of_repeats, times_together, times_in_turn, times_in, combined_times, sounding_time, number};
 ghost use Rattle.ny_timing.specs.Found.{scalar_of_found, time_of_found};
-ghost use Rattle.ny_timing.specs.Operations.{operation_scalar, operation_time, after_change};
 
-use crate::found::{
-    Change, Found, Operation, apply_change, found_of, named, negative, no_time, operated,
-    scalar_of, time_of,
-};
-use crate::leaves::{cue_timing, envelope_end, plain_timing, rest_timing, sustained_timing};
+use crate::found::{Found, found_of, named, negative, no_time, operated, scalar_of, time_of};
+use crate::leaves::{cue_timing, leaf_time};
 use crate::names::Names;
 use crate::rules::{mix_timing, placed_timing, resampled_timing};
-use ny_check::operations::{holds, not, number_in, quotient};
-use ny_check::{ExprId, FunctionId, NameId, Node, Program, Scalar, Value};
+use ny_check::changes::{change_by, change_rate};
+use ny_check::operations::{and, compare, holds, not, number_in, or, quotient};
+use ny_check::{Change, ExprId, FunctionId, NameId, Node, Op, Order, Program, Scalar, Value};
 use ny_num::{Fix, Rate, Ticks, Timing, index};
 use ny_warp::Env;
 use std::alloc::{AllocError, Global};
@@ -55,17 +52,22 @@ pub(crate) fn find(
             let chosen = if holds(scalar_of(&condition)) { *a } else { *b };
             Ok(find(alloc, p, chosen, env, names)?)
         }
-        Node::Add(a, b) => Ok(pair(alloc, p, Operation::Add, *a, *b, env, names)?),
-        Node::Sub(a, b) => Ok(pair(alloc, p, Operation::Sub, *a, *b, env, names)?),
-        Node::Mul(a, b) => Ok(pair(alloc, p, Operation::Mul, *a, *b, env, names)?),
-        Node::Max(a, b) => Ok(pair(alloc, p, Operation::Max, *a, *b, env, names)?),
-        Node::Min(a, b) => Ok(pair(alloc, p, Operation::Min, *a, *b, env, names)?),
+        Node::Pair(op, a, b) => Ok(pair(alloc, p, *op, *a, *b, env, names)?),
         Node::Compare(relation, a, b) => {
-            let operation = Operation::Compare(*relation);
-            Ok(pair(alloc, p, operation, *a, *b, env, names)?)
+            let a = find(alloc, p, *a, env, names)?;
+            let b = find(alloc, p, *b, env, names)?;
+            Ok(found_of(compare(*relation, scalar_of(&a), scalar_of(&b)), env.sound_rate))
         }
-        Node::And(a, b) => Ok(pair(alloc, p, Operation::And, *a, *b, env, names)?),
-        Node::Or(a, b) => Ok(pair(alloc, p, Operation::Or, *a, *b, env, names)?),
+        Node::And(a, b) => {
+            let a = find(alloc, p, *a, env, names)?;
+            let b = find(alloc, p, *b, env, names)?;
+            Ok(found_of(and(scalar_of(&a), scalar_of(&b)), env.sound_rate))
+        }
+        Node::Or(a, b) => {
+            let a = find(alloc, p, *a, env, names)?;
+            let b = find(alloc, p, *b, env, names)?;
+            Ok(found_of(or(scalar_of(&a), scalar_of(&b)), env.sound_rate))
+        }
         Node::Div(a, by) => {
             let a = find(alloc, p, *a, env, names)?;
             Ok(found_of(quotient(scalar_of(&a), *by), env.sound_rate))
@@ -78,7 +80,7 @@ pub(crate) fn find(
             let a = find(alloc, p, *a, env, names)?;
             Ok(found_of(not(scalar_of(&a)), env.sound_rate))
         }
-        _ => Ok(Found::Sound(leaf(alloc, p, e, env, names)?)),
+        _ => Ok(Found::Sound(sounding(alloc, p, e, env, names)?)),
     }
 }
 
@@ -93,12 +95,12 @@ fn global(alloc: Global, p: &Program, value: ExprId, rate: Rate) -> Result<Found
     Ok(found_of(scalar, rate))
 }
 
-/// What an operator makes of its two operands.
+/// What an operation makes of its two operands.
 #[cycle(timing)]
 fn pair(
     alloc: Global,
     p: &Program,
-    operation: Operation,
+    op: Op,
     a: ExprId,
     b: ExprId,
     env: &Env,
@@ -106,14 +108,14 @@ fn pair(
 ) -> Result<Found, AllocError>
     requires a { a.0 < length p.now.nodes }
     requires b { b.0 < length p.now.nodes }
-    ensures scalar { IfOk result (λ f. scalar_of_found f ≡ operation_scalar operation (scalar_of p.now a.0 (scalars_of names.old)) (scalar_of p.now b.0 (scalars_of names.old))) }
-    ensures timing { IfOk result (λ f. time_of_found env.now.sound_rate f ≡ operation_time operation env.now.sound_rate (timed_value_of p.now (timing_at p.now) env.now names.old a) (timed_value_of p.now (timing_at p.now) env.now names.old b)) }
+    ensures scalar { IfOk result (λ f. scalar_of_found f ≡ of_numbers (fix_operation op) (scalar_of p.now a.0 (scalars_of names.old)) (scalar_of p.now b.0 (scalars_of names.old))) }
+    ensures timing { IfOk result (λ f. time_of_found env.now.sound_rate f ≡ combined_times (pair_timing op) env.now.sound_rate (timed_value_of p.now (timing_at p.now) env.now names.old a) (timed_value_of p.now (timing_at p.now) env.now names.old b)) }
     ensures bounds { IfOk result (λ f. IsTiming (time_of_found env.now.sound_rate f)) }
     ensures names { OnOk result (names.new ≡ names.old) }
 {
     let first = find(alloc, p, a, env, names)?;
     let second = find(alloc, p, b, env, names)?;
-    Ok(operated(operation, env.sound_rate, &first, &second))
+    Ok(operated(op, env.sound_rate, &first, &second))
 }
 
 /// The parameters of a function, each bound to its argument.
@@ -275,28 +277,9 @@ fn numbers(
     Ok(values)
 }
 
-/// A leaf at a rate whose length the sustain changes.
+/// A leaf, an effect, a cue, a mix or a change; no sound where the node is none.
 #[cycle(timing)]
-fn sustained(
-    alloc: Global,
-    p: &Program,
-    rate: Rate,
-    d: ExprId,
-    env: &Env,
-    names: &mut Names,
-) -> Result<Timing, AllocError>
-    requires inside { d.0 < length p.now.nodes }
-    ensures value { IfOk result (λ t. t ≡ sustained_timing rate env.now (number p.now names.old d)) }
-    ensures bounds { IfOk result (λ t. IsTiming t) }
-    ensures names { OnOk result (names.new ≡ names.old) }
-{
-    let d = number(alloc, p, d, env, names)?;
-    Ok(sustained_timing(rate, env, d))
-}
-
-/// A leaf, or what is no leaf.
-#[cycle(timing)]
-fn leaf(
+fn sounding(
     alloc: Global,
     p: &Program,
     e: ExprId,
@@ -304,92 +287,89 @@ fn leaf(
     names: &mut Names,
 ) -> Result<Timing, AllocError>
     requires inside { e.0 < length p.now.nodes }
-    ensures value { IfOk result (λ t. t ≡ leaf_time p.now (node_at p.now e.0) (timing_at p.now) env.now names.old) }
+    ensures value { IfOk result (λ t. t ≡ sounding_time p.now (node_at p.now e.0) (timing_at p.now) env.now names.old) }
     ensures bounds { IfOk result (λ t. IsTiming t) }
     ensures names { OnOk result (names.new ≡ names.old) }
 {
     match p.node(e) {
-        Node::Const(_, d) => Ok(sustained(alloc, p, env.sound_rate, *d, env, names)?),
-        Node::Osc(_, d) => Ok(sustained(alloc, p, env.sound_rate, *d, env, names)?),
-        Node::HzOsc(_, d) => Ok(sustained(alloc, p, env.sound_rate, *d, env, names)?),
-        Node::Noise(_, d) => Ok(sustained(alloc, p, env.sound_rate, *d, env, names)?),
-        Node::Lfo(_, d) => Ok(sustained(alloc, p, env.control_rate, *d, env, names)?),
-        Node::Rest(d) => {
-            let d = number(alloc, p, *d, env, names)?;
-            Ok(rest_timing(env, d))
-        }
-        Node::Ramp(d) => {
-            let d = number(alloc, p, *d, env, names)?;
-            Ok(plain_timing(env.control_rate, env, d))
-        }
-        Node::Pwl(parts) => {
+        Node::Leaf(generator, parts) => {
             let values = numbers(alloc, p, e, parts.as_slice(), env, names)?;
-            Ok(plain_timing(env.control_rate, env, envelope_end(values.as_slice())))
+            Ok(leaf_time(*generator, env, values.as_slice()))
         }
-        _ => Ok(derived(alloc, p, e, env, names)?),
-    }
-}
-
-/// What is made of one sound at its own rate, or what is not.
-#[cycle(timing)]
-fn derived(
-    alloc: Global,
-    p: &Program,
-    e: ExprId,
-    env: &Env,
-    names: &mut Names,
-) -> Result<Timing, AllocError>
-    requires inside { e.0 < length p.now.nodes }
-    ensures value { IfOk result (λ t. t ≡ derived_time p.now (node_at p.now e.0) (timing_at p.now) env.now names.old) }
-    ensures bounds { IfOk result (λ t. IsTiming t) }
-    ensures names { OnOk result (names.new ≡ names.old) }
-{
-    match p.node(e) {
-        Node::Abs(part) => Ok(heard(alloc, p, *part, env, names)?),
+        Node::Effect(_, part, _) => Ok(heard(alloc, p, *part, env, names)?),
         Node::Cue(part) => {
             let t = heard(alloc, p, *part, env, names)?;
             Ok(cue_timing(env, &t))
         }
-        Node::OnePole(part, _) => Ok(heard(alloc, p, *part, env, names)?),
-        Node::Biquad(part, _) => Ok(heard(alloc, p, *part, env, names)?),
-        Node::Comb(part, _, _) => Ok(heard(alloc, p, *part, env, names)?),
-        _ => Ok(mixed(alloc, p, e, env, names)?),
+        Node::Mix(order, parts) => {
+            let times = parts_in(alloc, p, e, *order, parts.as_slice(), env, names)?;
+            Ok(mix_timing(env.sound_rate, times.as_slice()))
+        }
+        Node::Repeat(order, i, count, part) => {
+            let times = repeats_in(alloc, p, *order, *i, *count, *part, env, names)?;
+            Ok(mix_timing(env.sound_rate, times.as_slice()))
+        }
+        Node::Change(change, part) => {
+            let inner = changed(alloc, p, e, change, env, names)?;
+            Ok(heard(alloc, p, *part, &inner, names)?)
+        }
+        _ => Ok(no_time(env.sound_rate)),
     }
 }
 
-/// A mix, or what is no mix.
+/// The environment of what is changed.
 #[cycle(timing)]
-fn mixed(
+fn changed(
     alloc: Global,
     p: &Program,
     e: ExprId,
+    change: &Change,
     env: &Env,
     names: &mut Names,
-) -> Result<Timing, AllocError>
-    requires inside { e.0 < length p.now.nodes }
-    ensures value { IfOk result (λ t. t ≡ mixed_time p.now (node_at p.now e.0) (timing_at p.now) env.now names.old) }
-    ensures bounds { IfOk result (λ t. IsTiming t) }
+) -> Result<Env, AllocError>
+    requires inside { e.0 ≤ length p.now.nodes }
+    requires below { IsChangeBelow e.0 change.now }
+    ensures value { IfOk result (λ inner. inner ≡ changed_env change.now (number p.now names.old) env.now) }
     ensures names { OnOk result (names.new ≡ names.old) }
 {
-    let rate = env.sound_rate;
-    match p.node(e) {
-        Node::Sim(parts) => {
-            let times = together(alloc, p, e, parts.as_slice(), env, names)?;
-            Ok(mix_timing(rate, times.as_slice()))
+    let mut inner = env.copy(alloc)?;
+    match change {
+        Change::By(by, k) => {
+            let k = number(alloc, p, *k, env, names)?;
+            change_by(&mut inner, *by, k);
+            Ok(inner)
         }
-        Node::Seq(parts) => {
-            let times = in_turn(alloc, p, e, parts.as_slice(), env, names)?;
-            Ok(mix_timing(rate, times.as_slice()))
+        Change::Warp(map) => {
+            inner.warp(alloc, map)?;
+            Ok(inner)
         }
-        Node::SimRep(i, count, part) => {
-            let times = repeats_together(alloc, p, *i, *count, *part, env, names)?;
-            Ok(mix_timing(rate, times.as_slice()))
+        Change::Rate(rated, rate) => {
+            change_rate(&mut inner, *rated, *rate);
+            Ok(inner)
         }
-        Node::SeqRep(i, count, part) => {
-            let times = repeats_in_turn(alloc, p, *i, *count, *part, env, names)?;
-            Ok(mix_timing(rate, times.as_slice()))
-        }
-        _ => Ok(changed(alloc, p, e, env, names)?),
+    }
+}
+
+/// Parts together, or one after another.
+#[cycle(timing)]
+fn parts_in(
+    alloc: Global,
+    p: &Program,
+    e: ExprId,
+    order: Order,
+    parts: &[ExprId],
+    env: &Env,
+    names: &mut Names,
+) -> Result<Vec<Timing>, AllocError>
+    requires inside { e.0 ≤ length p.now.nodes }
+    requires below { AllBelow e.0 parts.now }
+    ensures value { IfOk result (λ ts. ts.items ≡ times_in order env.now (map (time_of_part (timing_at p.now) names.old) parts.now)) }
+    ensures bounds { IfOk result (λ ts. All (IsTimingAt env.now.sound_rate) ts.items) }
+    ensures names { OnOk result (names.new ≡ names.old) }
+{
+    match order {
+        Order::Together => Ok(together(alloc, p, e, parts, env, names)?),
+        Order::InTurn => Ok(in_turn(alloc, p, e, parts, env, names)?),
     }
 }
 
@@ -561,64 +541,25 @@ fn repeats_in_turn(
     Ok(times)
 }
 
-/// A sound in an environment that a number changes.
+/// The turns of a repeat together, or one after another.
 #[cycle(timing)]
-fn under(
+fn repeats_in(
     alloc: Global,
     p: &Program,
-    change: Change,
-    k: ExprId,
+    order: Order,
+    i: NameId,
+    count: u32,
     part: ExprId,
     env: &Env,
     names: &mut Names,
-) -> Result<Timing, AllocError>
-    requires number { k.0 < length p.now.nodes }
+) -> Result<Vec<Timing>, AllocError>
     requires inside { part.0 < length p.now.nodes }
-    ensures value { IfOk result (λ t. t ≡ timing_at p.now part.0 (after_change change env.now (number p.now names.old k)) names.old) }
-    ensures bounds { IfOk result (λ t. IsTiming t) }
+    ensures value { IfOk result (λ ts. ts.items ≡ times_in order env.now (times_of_repeats (timing_at p.now) names.old i count part)) }
+    ensures bounds { IfOk result (λ ts. All (IsTimingAt env.now.sound_rate) ts.items) }
     ensures names { OnOk result (names.new ≡ names.old) }
 {
-    let k = number(alloc, p, k, env, names)?;
-    let mut inner = env.copy(alloc)?;
-    apply_change(&mut inner, change, k);
-    Ok(heard(alloc, p, part, &inner, names)?)
-}
-
-/// A transformed sound; no sound where the node is none.
-#[cycle(timing)]
-fn changed(
-    alloc: Global,
-    p: &Program,
-    e: ExprId,
-    env: &Env,
-    names: &mut Names,
-) -> Result<Timing, AllocError>
-    requires inside { e.0 < length p.now.nodes }
-    ensures value { IfOk result (λ t. t ≡ changed_time p.now (node_at p.now e.0) (timing_at p.now) env.now names.old) }
-    ensures bounds { IfOk result (λ t. IsTiming t) }
-    ensures names { OnOk result (names.new ≡ names.old) }
-{
-    match p.node(e) {
-        Node::At(k, part) => Ok(under(alloc, p, Change::At, *k, *part, env, names)?),
-        Node::Stretch(k, part) => Ok(under(alloc, p, Change::Stretch, *k, *part, env, names)?),
-        Node::Loud(k, part) => Ok(under(alloc, p, Change::Loud, *k, *part, env, names)?),
-        Node::Sustain(k, part) => Ok(under(alloc, p, Change::Sustain, *k, *part, env, names)?),
-        Node::Transpose(k, part) => Ok(under(alloc, p, Change::Transpose, *k, *part, env, names)?),
-        Node::Warp(map, part) => {
-            let mut inner = env.copy(alloc)?;
-            inner.warp(alloc, map)?;
-            Ok(heard(alloc, p, *part, &inner, names)?)
-        }
-        Node::SoundRate(rate, part) => {
-            let mut inner = env.copy(alloc)?;
-            inner.sound_rate(*rate);
-            Ok(heard(alloc, p, *part, &inner, names)?)
-        }
-        Node::ControlRate(rate, part) => {
-            let mut inner = env.copy(alloc)?;
-            inner.control_rate(*rate);
-            Ok(heard(alloc, p, *part, &inner, names)?)
-        }
-        _ => Ok(no_time(env.sound_rate)),
+    match order {
+        Order::Together => Ok(repeats_together(alloc, p, i, count, part, env, names)?),
+        Order::InTurn => Ok(repeats_in_turn(alloc, p, i, count, part, env, names)?),
     }
 }

@@ -4,8 +4,11 @@ ghost use Rattle.std.specs.Prelude.{◌≡◌};
 ghost use Rattle.std.specs.Int.{int_max};
 ghost use Rattle.ny_num.specs.Sound.{IsTiming};
 ghost use Rattle.ny_check.specs.Behaviours.{sustained_timing, plain_timing, rest_timing, envelope_end, cue_timing};
+ghost use Rattle.ny_check.specs.Families.{leaf_time};
 
 use crate::rules::{cued_timing, leaf_timing};
+use ny_check::Generator;
+use ny_check::operations::number_at;
 use ny_num::{Fix, Rate, Timing, index};
 use ny_warp::Env;
 
@@ -71,4 +74,20 @@ pub fn envelope_end(numbers: &[Fix]) -> Fix
         is_time = !is_time;
     }
     time
+}
+
+/// When a leaf of these numbers is heard: a row for each.
+pub fn leaf_time(generator: Generator, env: &Env, numbers: &[Fix]) -> Timing
+    ensures value { result ≡ leaf_time generator env.now numbers.now }
+    ensures bounds { IsTiming result }
+{
+    match generator {
+        Generator::Const | Generator::Osc | Generator::HzOsc | Generator::Noise => {
+            sustained_timing(env.sound_rate, env, number_at(numbers, 1))
+        }
+        Generator::Lfo => sustained_timing(env.control_rate, env, number_at(numbers, 1)),
+        Generator::Rest => rest_timing(env, number_at(numbers, 0)),
+        Generator::Ramp => plain_timing(env.control_rate, env, number_at(numbers, 0)),
+        Generator::Pwl => plain_timing(env.control_rate, env, envelope_end(numbers)),
+    }
 }

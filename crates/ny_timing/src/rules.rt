@@ -8,8 +8,10 @@ ghost use Rattle.ny_num.specs.Leaves.{leaf_timing};
 ghost use Rattle.ny_num.specs.Pointwise.{product_timing};
 ghost use Rattle.ny_num.specs.Resampling.{index_between, is_same_rate, other_rate_timing, resampled_timing};
 ghost use Rattle.ny_num.specs.Mix.{least_start, greatest_end, greatest_stop, mix_timing, channel_timing};
+ghost use Rattle.ny_check.specs.Families.{pair_timing};
 ghost use Rattle.ny_timing.specs.Timings.{IsTimingAt};
 
+use ny_check::Op;
 use ny_num::{Rate, Ticks, Timing, index, tick_of_index};
 
 /// The index of the horizon.
@@ -173,6 +175,20 @@ pub fn product_timing(a: &Timing, b: &Timing) -> Timing
 {
     let end = (a.start + a.len).min(b.start + b.len);
     spanning(a.rate, a.start.min(b.start), end, earlier(a.stop, b.stop))
+}
+
+/// When two sounds of one rate are heard together by an operation.
+pub fn pair_timing(op: Op, a: &Timing, b: &Timing) -> Timing
+    requires rate { a.now.rate ≡ b.now.rate }
+    requires a_bounds { IsTiming a.now }
+    requires b_bounds { IsTiming b.now }
+    ensures value { result ≡ pair_timing op a.now b.now }
+    ensures bounds { IsTiming result }
+{
+    match op {
+        Op::Add | Op::Sub | Op::Max | Op::Min => sum_timing(a, b),
+        Op::Mul => product_timing(a, b),
+    }
 }
 
 /// When a mix is heard, of parts that have its rate.

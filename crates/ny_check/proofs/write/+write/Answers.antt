@@ -10,7 +10,7 @@ use Rattle.ny_check.proofs.Wider.{binds_push}
 use Rattle.ny_check.proofs.write.+write.Goals as goal
 
 pub write-put-requires-in-Apply-clause-below : goal.write-put-requires-in-Apply-clause-below
-write-put-requires-in-Apply-clause-below t c = c.operator_node.ensures.below c.write_each-in-Apply.new.draft.functions (length c.write_each-in-Apply.new.draft.table.nodes) c.in_ok-ids-in-Apply.ensures.below
+write-put-requires-in-Apply-clause-below t c = c.in_ok-node-in-Apply.ensures.below c.write_each-in-Apply.new.draft.functions (length c.write_each-in-Apply.new.draft.table.nodes) c.in_ok-ids-in-Apply.ensures.below
 
 pub write_each_bind-loop-bind-preserved : goal.write_each_bind-loop-bind-preserved
 write_each_bind-loop-bind-preserved t c = let here : drop c.loop-bind.bind-index c.args.binds.now ≡ c.bind-item.result ∷ drop (c.loop-bind.bind-index + 1) c.args.binds.now = grind (arith, common_steps) in record {

@@ -5,21 +5,18 @@ use Rattle.ny_check.specs.Code.{AllBelow, BindsBelow}
 use Rattle.ny_timing.specs.Timings.{IsTimingAt, timing_at, timed_value_of, timed_after, number, times_after, times_in_turn, times_together, time_of_part, time_of_repeat}
 use Rattle.ny_timing.proofs.find.+timing.Given as goal
 
--- a node before its parts, and the groups of a node in their order
+-- a node before its parts
 abbrev pub decreases-find : goal.decreases-find
 decreases-find l = 8 * l.e.0 + 7
 
-abbrev pub decreases-leaf : goal.decreases-leaf
-decreases-leaf l = 8 * l.e.0 + 6
-
-abbrev pub decreases-derived : goal.decreases-derived
-decreases-derived l = 8 * l.e.0 + 5
-
-abbrev pub decreases-mixed : goal.decreases-mixed
-decreases-mixed l = 8 * l.e.0 + 4
+abbrev pub decreases-sounding : goal.decreases-sounding
+decreases-sounding l = 8 * l.e.0 + 6
 
 abbrev pub decreases-changed : goal.decreases-changed
-decreases-changed l = 8 * l.e.0 + 3
+decreases-changed l = 8 * l.e.0 + 1
+
+abbrev pub decreases-parts_in : goal.decreases-parts_in
+decreases-parts_in l = 8 * l.e.0 + 2
 
 abbrev pub decreases-call : goal.decreases-call
 decreases-call l = 8 * l.e.0 + 2
@@ -52,9 +49,6 @@ decreases-heard l = 8 * l.e.0 + 8
 abbrev pub decreases-number : goal.decreases-number
 decreases-number l = 8 * l.e.0 + 8
 
-abbrev pub decreases-sustained : goal.decreases-sustained
-decreases-sustained l = 8 * l.d.0 + 9
-
 abbrev pub decreases-turn : goal.decreases-turn
 decreases-turn l = 8 * l.part.0 + 9
 
@@ -64,8 +58,8 @@ decreases-repeats_together l = 8 * l.part.0 + 10
 abbrev pub decreases-repeats_in_turn : goal.decreases-repeats_in_turn
 decreases-repeats_in_turn l = 8 * l.part.0 + 10
 
-abbrev pub decreases-under : goal.decreases-under
-decreases-under l = 8 * max l.k.0 l.part.0 + 9
+abbrev pub decreases-repeats_in : goal.decreases-repeats_in
+decreases-repeats_in l = 8 * l.part.0 + 11
 
 abbrev pub invariant-arguments-loop-i : goal.invariant-arguments-loop-i
 invariant-arguments-loop-i l = record {
