@@ -56,7 +56,10 @@ pub(crate) fn find(
         Node::Compare(relation, a, b) => {
             let a = find(alloc, p, *a, env, names)?;
             let b = find(alloc, p, *b, env, names)?;
-            Ok(found_of(compare(*relation, scalar_of(&a), scalar_of(&b)), env.sound_rate))
+            Ok(found_of(
+                compare(*relation, scalar_of(&a), scalar_of(&b)),
+                env.sound_rate,
+            ))
         }
         Node::And(a, b) => {
             let a = find(alloc, p, *a, env, names)?;
