@@ -1,4 +1,4 @@
-ghost use Rattle.std.specs.Prelude.{◌≡◌, Option, None, map, string_bytes, IsTrue, IfSome};
+ghost use Rattle.std.specs.Prelude.{◌≡◌, ◌⊎◌, Option, None, map, string_bytes, IsTrue, IfSome};
 ghost use Rattle.ny_pull.specs.Engine.{EngineState};
 ghost use Rattle.ny_top.specs.Outcome.{HasOutcome, code_of};
 ghost use Rattle.ny_top.specs.Ends.{EndsAs, is_whole};

@@ -2,7 +2,7 @@
 #![tactic(auto)]
 
 mod ended;
-mod start;
+mod entry;
 
 pub use ended::exit_code;
-pub use start::start;
+pub use entry::start;
