@@ -66,7 +66,9 @@ pub fn cues()
     ensures quieter { frames_of (playing (number (pos 69000000) ∷ number (pos 1000) ∷ oscillator 0 1 ∷ named ∷ cue 3 ∷ number (pos 500000) ∷ louder 5 4 ∷ where_name_is 2 6 ∷ [])) ≡ mono (pos 0 ∷ pos 169031 ∷ pos 316742 ∷ pos 428266 ∷ pos 490868 ∷ pos 494053 ∷ pos 438957 ∷ pos 330682 ∷ []) }
 {}
 
-/// Channels: `vector(const(0.1, 0.00025), const(0.2, 0.000125) @ 0.00025)`, whose second begins where the first ends.
+/// Channels: `vector(const(0.1, 0.00025), const(0.2, 0.000125) @ 0.00025)`, whose second begins where the first ends, and
+/// `begin with x = osc(69, 0.0005) return vector(cue(x), cue(x)) end`.
 pub fn channels()
-    ensures { frames_of (playing (number (pos 100000) ∷ number (pos 250) ∷ constant 0 1 ∷ number (pos 200000) ∷ number (pos 125) ∷ constant 3 4 ∷ later 1 5 ∷ in_channels (2 ∷ 6 ∷ []) ∷ [])) ≡ (pos 100000 ∷ pos 0 ∷ []) ∷ (pos 100000 ∷ pos 0 ∷ []) ∷ (pos 0 ∷ pos 200000 ∷ []) ∷ [] }
+    ensures apart { frames_of (playing (number (pos 100000) ∷ number (pos 250) ∷ constant 0 1 ∷ number (pos 200000) ∷ number (pos 125) ∷ constant 3 4 ∷ later 1 5 ∷ in_channels (2 ∷ 6 ∷ []) ∷ [])) ≡ (pos 100000 ∷ pos 0 ∷ []) ∷ (pos 100000 ∷ pos 0 ∷ []) ∷ (pos 0 ∷ pos 200000 ∷ []) ∷ [] }
+    ensures same { frames_of (playing (number (pos 69000000) ∷ number (pos 500) ∷ oscillator 0 1 ∷ named ∷ cue 3 ∷ in_channels (4 ∷ 4 ∷ []) ∷ where_name_is 2 5 ∷ [])) ≡ map (λ x. x ∷ x ∷ []) (pos 0 ∷ pos 338063 ∷ pos 633484 ∷ pos 856533 ∷ []) }
 {}
