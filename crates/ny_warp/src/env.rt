@@ -38,12 +38,12 @@ impl Env {
             transpose: Fix::of(0),
             sound_rate: rate,
             control_rate: Rate::R2205,
-            steps: Steps::new(alloc),
+            steps: Steps::new(alloc)?,
         })
     }
 
-    /// The same environment once more. The maps of its steps are shared.
-    pub fn copy(&self, alloc: Global) -> Result<Env, AllocError>
+    /// The same environment once more. Its steps are shared.
+    pub fn copy(&self, _alloc: Global) -> Result<Env, AllocError>
         ensures { IfOk result (λ env. env ≡ self.now) }
     {
         Ok(Env {
@@ -54,7 +54,7 @@ impl Env {
             transpose: self.transpose,
             sound_rate: self.sound_rate,
             control_rate: self.control_rate,
-            steps: self.steps.copy(alloc)?,
+            steps: self.steps.copy()?,
         })
     }
 
@@ -102,7 +102,7 @@ impl Env {
     /// Adds offset, factor and map as the innermost step, after which there is neither offset nor
     /// factor. Where memory is wanted, the environment is as before.
     #[tactic(auto, unfolding(crate::specs::Environment::warped, ny_num::specs::Numbers::sat))]
-    pub fn warp(&mut self, _alloc: Global, m: &Map) -> Result<(), AllocError>
+    pub fn warp(&mut self, alloc: Global, m: &Map) -> Result<(), AllocError>
         ensures ok { OnOk result (self.new ≡ warped self.old m.now) }
         ensures err { OnErr result (self.new ≡ self.old) }
     {
@@ -111,7 +111,7 @@ impl Env {
             s: self.s,
             map: m.clone()?,
         };
-        self.steps.push(step)?;
+        self.steps.push(alloc, step)?;
         self.d = Ticks::of(0);
         self.s = Fix::of(UNIT);
         Ok(())

@@ -8,6 +8,7 @@ use crate::map::{HORIZON, Map};
 use ny_num::{Fix, Ticks};
 use std::alloc::{AllocError, Global};
 use std::marker::Model;
+use std::rc::RcSlice;
 
 /// The exact product, which 64 bits cannot hold.
 fn product(a: i64, b: u64) -> i128
@@ -132,46 +133,64 @@ impl Step {
     }
 }
 
-/// The steps of a warp, the outermost first. They are seen as their list.
+/// The steps of a warp, the outermost first. They are seen as their list, which copies share.
 #[derive(Debug, Drop)]
 pub(crate) struct Steps {
-    items: Vec<Step>,
+    items: RcSlice<Step>,
 }
 
 impl Model for Steps {
     ghost use Rattle.std.specs.Prelude.{List};
+    ghost use Rattle.std.specs.Rc.{rc_slice_items};
     ghost use Rattle.ny_warp.specs.declared.step.Step.{Step};
 
     ghost Value = { List Step };
 
-    ghost view = { λ s. s.items.items };
+    ghost view = { λ s. rc_slice_items s.items };
 }
 
 impl Steps {
-    pub(crate) fn new(alloc: Global) -> Steps
-        ensures { result ≡ [] }
+    pub(crate) fn new(alloc: Global) -> Result<Steps, AllocError>
+        ensures { IfOk result (λ steps. steps ≡ []) }
     {
-        Steps {
-            items: Vec::new(alloc),
-        }
+        let items = RcSlice::from_vec(Vec::new(alloc))?;
+        Ok(Steps { items })
     }
 
-    /// Adds the innermost step.
-    pub(crate) fn push(&mut self, step: Step) -> Result<(), AllocError>
+    fn steps(&self) -> &[Step]
+        ensures { result.now ≡ self.now }
+    {
+        self.items.as_slice()
+    }
+
+    // The same steps in a list of their own.
+    fn own(&self, alloc: Global) -> Result<Vec<Step>, AllocError>
+        ensures { IfOk result (λ steps. steps.items ≡ self.now) }
+    {
+        let steps = self.steps();
+        let mut items = Vec::with_capacity(alloc, steps.len() + 1)?;
+        for step in steps {
+            items.push(step.copy()?)?;
+        }
+        Ok(items)
+    }
+
+    /// Adds the innermost step. Copies that share the steps before it do not have it.
+    pub(crate) fn push(&mut self, alloc: Global, step: Step) -> Result<(), AllocError>
         ensures ok { OnOk result (self.new ≡ self.old ++ (step ∷ [])) }
         ensures err { OnErr result (self.new ≡ self.old) }
     {
-        self.items.push(step)?;
+        let mut items = self.own(alloc)?;
+        items.push(step)?;
+        self.items = RcSlice::from_vec(items)?;
         Ok(())
     }
 
-    pub(crate) fn copy(&self, alloc: Global) -> Result<Steps, AllocError>
+    /// The same steps once more, at the same cost however many there are.
+    pub(crate) fn copy(&self) -> Result<Steps, AllocError>
         ensures { IfOk result (λ steps. steps ≡ self.now) }
     {
-        let mut items = Vec::with_capacity(alloc, self.items.len())?;
-        for step in &self.items {
-            items.push(step.copy()?)?;
-        }
+        let items = self.items.clone()?;
         Ok(Steps { items })
     }
 
@@ -179,7 +198,7 @@ impl Steps {
     pub(crate) fn never_falls(&self)
         ensures { (v w : ℕ) → v ≤ w → through self.now v ≤ through self.now w }
     {
-        for step in &self.items {
+        for step in self.steps() {
             step.never_falls();
         }
     }
@@ -188,7 +207,7 @@ impl Steps {
     pub(crate) fn through(&self, x: Ticks) -> Ticks
         ensures { result ≡ through self.now x }
     {
-        let steps = self.items.as_slice();
+        let steps = self.steps();
         let mut at = x;
         for i in (0..steps.len()).rev() {
             at = steps[i].value(at);
@@ -202,7 +221,7 @@ impl Steps {
         ensures { result ≡ least_inverse self.now t }
     {
         let mut least = t;
-        for step in &self.items {
+        for step in self.steps() {
             match step.first(least) {
                 Some(first) => least = first,
                 None => return Ticks::of(HORIZON),

@@ -8,8 +8,8 @@ use Rattle.ny_warp.proofs.step.Steps.least_inverse.Goals as goal
 
 pub returns-in-None : goal.returns-in-None
 returns-in-None c =
-    let steps = c.deref-step-items.result.now in
-    let same : steps ≡ c.args.self.now = c.deref-step-items.ensures.value ∙ c.self.view_is in
+    let steps = c.steps-step-items.result.now in
+    let same : steps ≡ c.args.self.now = c.steps-step-items.ensures in
     let before : (v : ℕ) → v < c.of.result → through steps v < c.args.t =
     λ v h.
     let inner = through (drop (c.loop-step.step-index + 1) steps) v in
@@ -21,8 +21,8 @@ returns-in-None c =
 
 pub returns : goal.returns
 returns c =
-    let steps = c.deref-step-items.result.now in
-    let same : steps ≡ c.args.self.now = c.deref-step-items.ensures.value ∙ c.self.view_is in
+    let steps = c.steps-step-items.result.now in
+    let same : steps ≡ c.args.self.now = c.steps-step-items.ensures in
     let none = drop-end steps c.loop-step.step-index (omega arith) in
     let rest : (v : ℕ) → through (drop c.loop-step.step-index steps) v ≡ v = λ v. ap (λ (l : List Step). through l v) none in
     let before : (v : ℕ) → v < c.loop-step.least → through steps v < c.args.t =
