@@ -18,7 +18,7 @@ use Rattle.ny_heap.specs.Table.{unit_at, timing_at, own_in, own_of, mark_in, len
 use Rattle.ny_heap.specs.View.{node_of, state_of, outside_in, filled_in, IsHeap}
 use Rattle.ny_heap.proofs.CountLemmas.{some_is, is_some_of}
 use Rattle.ny_heap.proofs.ListLemmas.{mark_is}
-use Rattle.ny_heap.proofs.ViewLemmas.{node_of_unit, unit_of_node, no_unit, block_at-state, uses_input, input_uses, readers_is, filled_is, input_cursor}
+use Rattle.ny_heap.proofs.ViewLemmas.{node_of_unit, unit_of_node, no_unit, block_at-state, blocks_none, uses_input, input_uses, readers_is, filled_is, input_cursor}
 
 -- the first of these blocks with a reader is g, where none before it has one
 pub first_read_is : (f : ℕ → ℕ) (j n g : ℕ) → j ≤ g → g ≤ j + n → ((k : ℕ) → k < g → f k ≡ 0) → (g < j + n → 0 < f g) → first_read f j n ≡ g
@@ -175,10 +175,19 @@ module _ (B : Type 0) (t : Table) (heap : IsHeap t) (fills peak : ℕ) where
           let c = input_cursor x i r e in
           absurd (true≢false (sym (lt-ltb (filled_in t.store v) (blocks_of t.block x.timing.len) (heap.clean v i x c.0 at c.1 c.2).1) ∙ closed))
 
+  -- where there is no unit there is no list
+  list_none : (v : ℕ) → unit_at t v ≡ None → list_at t.store v ≡ None
+  list_none v none = by (list_at t.store v) refl
+    where
+      by : (o : Option ListState) → list_at t.store v ≡ o → list_at t.store v ≡ None
+      by None e = e
+      by (Some l) e = let x = some_is (unit_at t v) (table.lists v (is_some_of _ l e)) in absurd (none_some (sym none ∙ x.1))
+
   pub heap_laws : HeapLaws {B = B} (state_of t fills peak)
   heap_laws = record {
     positive = omega (arith, table.store.some, table.block);
     nodes = λ v y at. let x = unit_of_node B t fills peak v y at in subst (NodeLaws {B = B} (state_of t fills peak) v) (sym x.2) (node_laws v x.0 x.1);
+    no_list = λ v none. blocks_none B t fills peak v (list_none v (no_unit B t fills peak v none));
     finds = λ u v uses.
         let r = uses_input B t fills peak u v uses in
         let w = table.units u r.0 r.3 in
@@ -251,8 +260,4 @@ module _ (B : Type 0) (t : Table) (heap : IsHeap t) (fills peak : ℕ) where
           ∙ sym (ap (λ (q : Option ListState). option_map_or {U = ℕ} lists.kept_of q 0) u.1)
       each i None at =
           ap (kept_of {B = B} (state_of t fills peak) i) (Rattle.ny_heap.proofs.ViewLemmas.no_node B t fills peak i at)
-          ∙ sym (ap (λ (q : Option ListState). option_map_or {U = ℕ} lists.kept_of q 0) (no_list (list_at t.store i) refl))
-        where
-          no_list : (q : Option ListState) → list_at t.store i ≡ q → list_at t.store i ≡ None
-          no_list None e = e
-          no_list (Some l) e = let x = some_is (unit_at t i) (table.lists i (is_some_of _ l e)) in absurd (none_some (sym at ∙ x.1))
+          ∙ sym (ap (λ (q : Option ListState). option_map_or {U = ℕ} lists.kept_of q 0) (list_none i at))

@@ -30,6 +30,7 @@ pub mod MeansLemmas
 pub mod ReadyLemmas
 pub mod ReadLemmas
 pub mod ShownLemmas
+pub mod ShareLemmas
 pub mod InputLemmas
 pub mod NextLemmas
 pub mod PassLemmas

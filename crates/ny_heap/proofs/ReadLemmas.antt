@@ -28,7 +28,7 @@ use Rattle.ny_heap.proofs.CountLemmas.{some_is, is_some_of, cursor_counted, held
 -- ---- marks
 
 -- a mark more in one place
-marks_entered : (marks : List ℕ) (m j : ℕ) → m < length marks → get_or (set marks m (get_or marks m 0 + 1)) j 0 ≡ get_or marks j 0 + cond (nat_eq m j) 1 0
+pub marks_entered : (marks : List ℕ) (m j : ℕ) → m < length marks → get_or (set marks m (get_or marks m 0 + 1)) j 0 ≡ get_or marks j 0 + cond (nat_eq m j) 1 0
 marks_entered marks m j within = elim (cases_eq m j) [
   | inl e ↦ omega (arith, ap (λ b. cond {A = ℕ} b 1 0) (eq-eqb m j e), ap (λ i. get_or (set marks m (get_or marks m 0 + 1)) i 0) e, ap (λ i. get_or marks i 0) e, get_or-set_same marks m (get_or marks m 0 + 1) 0 within)
   | inr ne ↦ omega (arith, ap (λ b. cond {A = ℕ} b 1 0) (ne_eqb m j ne), get_or-set_other marks m j (get_or marks m 0 + 1) 0 (λ e. ne (sym e)))

@@ -74,6 +74,9 @@ module _ (B : Type 0) (t : Table) (fills peak : ℕ) where
   pub block_at-state : (v j : ℕ) (l : ListState) → list_at t.store v ≡ Some l → block_at {B = B} (state_of t fills peak) v j ≡ get_or l.values j None
   block_at-state v j l at = ap (λ bs. get_or bs j None) (get_or-map_none (λ (o : Option ListState). option_map_or (λ x. x.values) o []) [] refl t.store.lists v ∙ ap (λ (o : Option ListState). option_map_or (λ x. x.values) o []) at)
 
+  pub blocks_none : (v : ℕ) → list_at t.store v ≡ None → get_or (state_of {B = B} t fills peak).blocks v [] ≡ []
+  blocks_none v none = get_or-map_none (λ (o : Option ListState). option_map_or (λ x. x.values) o []) [] refl t.store.lists v ∙ ap (λ (o : Option ListState). option_map_or (λ x. x.values) o []) none
+
   -- a unit that is used is read by an input
   pub uses_input : (u v : ℕ) → Uses {B = B} (state_of t fills peak) u v → (x : UnitData) × (i : ℕ) × (c : CursorState) × (unit_at t u ≡ Some x) × (i < length x.inputs.items) × (cursor_at x.work i ≡ Some c) × (c.list ≡ v)
   uses_input u v (Read reads) =

@@ -2,6 +2,7 @@ pub mod Heap
 pub mod Means
 pub mod Reach
 pub mod Steps
+pub mod Sharing
 pub mod Work
 pub mod Tasks
 pub mod Table

@@ -1,5 +1,5 @@
 -- Which units can be reached from the sounds in callers' hands, and what holds of each heap between two calls.
-use Rattle.std.specs.Prelude.{◌≡◌, ℕ, zero, suc, ◌+◌, ◌<◌, ◌≤◌, false, [], None, Some, IsSome, slice_get, length, sum}
+use Rattle.std.specs.Prelude.{◌≡◌, ℕ, zero, suc, ◌+◌, ◌<◌, ◌≤◌, false, [], None, Some, IsSome, slice_get, slice_index_or, length, sum}
 use Rattle.ny_heap.specs.Heap.{Reader, Captured, Waiting, Node, HeapState, node_at, block_at, input_at, is_open, blocks_of, taken_after, computed_of, first_kept}
 
 -- ---- readers
@@ -74,6 +74,8 @@ pub record ReaderLaws {B : Type 0} (h : HeapState B) (x : Node B) (r : Reader) (
 pub record HeapLaws {B : Type 0} (h : HeapState B) : Type 0 where
   pub positive : 0 < h.block
   pub nodes : (v : ℕ) (x : Node B) → node_at h v ≡ Some x → NodeLaws h v x
+  -- a number without a unit has no list, and so no block
+  pub no_list : (v : ℕ) → node_at h v ≡ None → slice_index_or h.blocks v [] ≡ []
   -- what is used is there
   pub finds : (u v : ℕ) → Uses h u v → IsSome (node_at h v)
   pub readers : (u i : ℕ) (x y : Node B) (r : Reader) → node_at h u ≡ Some x → input_at x i ≡ Some r → node_at h r.node ≡ Some y → ReaderLaws h x r y

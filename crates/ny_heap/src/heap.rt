@@ -1,21 +1,24 @@
-ghost use Rattle.std.specs.Prelude.{◌≡◌, ◌≢◌, ℕ, ◌+◌, ◌-◌, ◌<◌, ◌≤◌, ◌↔◌, ◌^◌, IsTrue, IsSomeAnd, [], Some, None, IfOk, OnOk, OnErr, is_err, length, take, drop, map, ◌++◌};
+ghost use Rattle.std.specs.Prelude.{◌≡◌, ◌≢◌, nat_lt, if◌then◌else◌, ℕ, ◌+◌, ◌-◌, ◌<◌, ◌≤◌, ◌↔◌, ◌^◌, IsTrue, IsSomeAnd, [], Some, None, IfOk, OnOk, OnErr, is_err, length, take, drop, map, ◌++◌};
 ghost use Rattle.std.specs.Option.{option_map};
 ghost use Rattle.ny_heap.specs.Heap.{HeapState, Made, node_at, list_of, place_of, open_unit, is_open, live_of, free_of};
 ghost use Rattle.ny_heap.specs.Means.{Parts, Whole, Means, KeepsMeaning, sound_in};
 ghost use Rattle.ny_heap.specs.Reach.{HeapLaws, IsTrimmed};
-ghost use Rattle.ny_heap.specs.Steps.{IsHeldSound, without_sound, without_sounds, AreHeld, IsMadeOf, IsMixOf, sounds_of, waiting_of, kind_of_mix, Makes, MakesMeaning, want_of, IsSettledUnit, Fills, Passes, run_of, computed_in, advanced};
+ghost use Rattle.ny_num.specs.Sound.{IsTiming};
+ghost use Rattle.ny_heap.specs.Sharing.{CanShare, moved_to};
+ghost use Rattle.ny_heap.specs.Steps.{IsHeldSound, with_sound, without_sound, without_sounds, AreHeld, IsMadeOf, IsMixOf, sounds_of, waiting_of, kind_of_mix, Makes, MakesMeaning, want_of, IsSettledUnit, Fills, Passes, run_of, computed_in, advanced};
 
 use crate::adding::make_unit;
 use crate::filling::fill_block;
 use crate::make::Make;
 use crate::reading::read_next;
 use crate::removal::drop_reader;
+use crate::sharing::{moved, readers, share_reader};
 use crate::sound::{Sound, begin, list_in, same_timing};
 use crate::table::{Table, is_unfilled};
 use crate::task::Task;
 use crate::wants::first_lacking;
 use ny_list::Store;
-use ny_num::{Sample, Timing};
+use ny_num::{Sample, Ticks, Timing};
 use ny_pool::SlotId;
 use ny_wave::Waves;
 use std::alloc::{AllocError, Global};
@@ -186,6 +189,60 @@ impl<B> Heap<B> {
         if let Some(c) = reader {
             drop_reader(&mut self.table, c);
         }
+    }
+
+    /// Whether there is room for one more reader of what a sound reads. It is missing only where 2^32 - 1 read it.
+    pub fn can_share(&self, s: &Sound) -> bool
+        requires held { IsHeldSound self.now s.now }
+        ensures room { IsTrue result ↔ CanShare self.now s.now }
+    {
+        match list_in(s) {
+            None => true,
+            Some(v) => readers(&self.table, v) < u32::MAX,
+        }
+    }
+
+    /// Another sound that reads what `s` reads, where `s` stands.
+    pub fn share(&mut self, s: &Sound) -> Sound
+        requires held { IsHeldSound self.old s.now }
+        requires room { CanShare self.old s.now }
+        ensures laws { HeapLaws self.new }
+        ensures timing { result.timing ≡ s.now.timing }
+        ensures list { list_of result ≡ list_of s.now }
+        ensures place { place_of result ≡ place_of s.now }
+        ensures heap { self.new ≡ with_sound self.old result }
+        ensures keeps { KeepsMeaning self.old self.new }
+    {
+        let timing = same_timing(&s.timing);
+        match &s.reader {
+            None => begin(None, timing),
+            Some(c) => begin(Some(share_reader(&mut self.table, c)), timing),
+        }
+    }
+
+    /// The same samples from another start on, counted in samples, with another stop, and cut at the horizon. Where none
+    /// is left the sound is given up.
+    pub fn place(&mut self, s: Sound, start: u32, stop: Ticks) -> Sound
+        requires laws { HeapLaws self.old }
+        requires held { IsHeldSound self.old s }
+        requires begins { place_of s ≡ 0 }
+        requires bounds { IsTiming (moved_to start stop s.timing) }
+        ensures laws { HeapLaws self.new }
+        ensures bounds { IsTiming result.timing }
+        ensures timing { result.timing ≡ moved_to start stop s.timing }
+        ensures begins { place_of result ≡ 0 }
+        ensures list { list_of result ≡ (if nat_lt 0 result.timing.len then list_of s else None) }
+        ensures all { result.timing.len ≡ 0 → IsTrimmed (without_sound self.old s) self.new }
+        ensures some { 0 < result.timing.len → self.new ≡ self.old }
+        ensures keeps { KeepsMeaning self.old self.new }
+    {
+        let timing = moved(&s.timing, start, stop);
+        if timing.len == 0 {
+            self.release(s);
+            return begin(None, timing);
+        }
+        let Sound { reader, .. } = s;
+        begin(reader, timing)
     }
 
     /// The unit that fills a sound's list; None exactly where the sound has no sample, or its unit

@@ -12,6 +12,7 @@ mod make;
 mod reading;
 mod removal;
 mod settling;
+mod sharing;
 mod sound;
 mod table;
 mod task;

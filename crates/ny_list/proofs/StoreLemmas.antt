@@ -86,6 +86,9 @@ held_seen t l s k x y table is at there seen =
     let e : x.cursors ≡ cursors_of y = (table.lists l x there).counted ∙ ap cursors_of (told t l s k x y is at there seen) in
     subst (λ n. IsTrue (nat_lt 0 x.cursors) ↔ (0 < n)) e ((λ h. grind (arith, nat_tests)), (λ h. lt-ltb 0 x.cursors h))
 
+pub cursors_seen : (t : Table) (l : ℕ) (s : StoreState) (k : ℕ) (x : Entry) (y : ListState) → IsTable t → state_of t ≡ s → l ≡ k → entry_at t l ≡ Some x → list_at s k ≡ Some y → x.cursors ≡ cursors_of y
+cursors_seen t l s k x y table is at there seen = (table.lists l x there).counted ∙ ap cursors_of (told t l s k x y is at there seen)
+
 pub filled_seen : (t : Table) (l : ℕ) (s : StoreState) (k : ℕ) (x : Entry) (y : ListState) → state_of t ≡ s → l ≡ k → entry_at t l ≡ Some x → list_at s k ≡ Some y → x.span.filled ≡ length y.values
 filled_seen t l s k x y is at there seen = sym (length-map-range_with_len (value_of t l x.span.len) 0 x.span.filled) ∙ ap (λ r. length r.values) (told t l s k x y is at there seen)
 

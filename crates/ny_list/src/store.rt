@@ -243,6 +243,14 @@ impl Store {
         self.table.lists.get(l.slot).cursors > 0
     }
 
+    /// How many cursors a list has.
+    pub fn cursors(&self, l: &List) -> u32
+        requires there { IsSome (list_at self.now l.now) }
+        ensures cursors { ForSome (list_at self.now l.now) (λ x. result ≡ cursors_of x) }
+    {
+        self.table.lists.get(l.slot).cursors
+    }
+
     /// How many blocks of a list are filled.
     pub fn filled(&self, l: &List) -> u32
         requires there { IsSome (list_at self.now l.now) }
