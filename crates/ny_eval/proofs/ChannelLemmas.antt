@@ -1,5 +1,5 @@
 -- A channel that was just made is played from its first sample on.
-use Rattle.std.proofs.Common.{◌≡◌, ◌⊎◌, inl, inr, ℕ, ◌+◌, ◌*◌, ◌<◌, ◌≤◌, true, List, [], ◌∷◌, ◌++◌, map, length, Some, refl, sym, ap, subst, ◌∙◌, arith}
+use Rattle.std.proofs.Common.{◌≡◌, ◌⊎◌, inl, inr, ℕ, ◌+◌, ◌*◌, ◌<◌, ◌≤◌, true, List, [], ◌∷◌, ◌++◌, map, length, sum, Some, refl, sym, ap, subst, ◌∙◌, arith}
 use Rattle.ny_num.specs.declared.timing.Timing.{Timing}
 use Rattle.ny_num.specs.declared.rate.Rate.{Rate}
 use Rattle.ny_num.specs.Mix as mixes
@@ -14,19 +14,19 @@ use Rattle.ny_check.specs.Code.{Code}
 use Rattle.ny_check.specs.Meaning.{meaning}
 use Rattle.ny_check.specs.Channels.{channel_at, channels}
 use Rattle.ny_heap.specs.Heap.{Channel, Node, HeapState, node_at, list_of}
-use Rattle.ny_heap.specs.Means.{Parts, Whole, Means, heard, input_sound}
-use Rattle.ny_heap.specs.Reach.{HeapLaws}
-use Rattle.ny_heap.specs.Steps.{AreHeld, IsMixOf, Makes, MakesMeaning, reader_of, sounds_of}
+use Rattle.ny_heap.specs.Means.{Parts, Whole, Means, KeepsMeaning, heard, input_sound}
+use Rattle.ny_heap.specs.Reach.{HeapLaws, IsTrimmed}
+use Rattle.ny_heap.specs.Steps.{AreHeld, IsMixOf, Makes, MakesMeaning, reader_of, sounds_of, without_sounds}
 use Rattle.ny_heap.specs.declared.sound.Sound.{Sound}
 use Rattle.ny_eval.specs.Below.{IsRank}
 use Rattle.ny_eval.specs.Built.{is_built}
 use Rattle.ny_eval.specs.Opened.{IsEmpty, AreOpened}
 use Rattle.ny_eval.specs.Playing.{IsPlaying}
-use Rattle.ny_eval.specs.Turns.{Rises, Turns, arrival, Came, Replaces}
+use Rattle.ny_eval.specs.Turns.{Rises, Turns, IsAsBefore, arrival, Came, Replaces}
 use Rattle.ny_eval.proofs.AnswerLemmas.{all_one}
 use Rattle.ny_eval.proofs.BelowLemmas.{user_there}
 use Rattle.ny_eval.proofs.KindLemmas.{is_built_sound, played_one}
-use Rattle.ny_eval.proofs.MadeLemmas.{spending, made_comes}
+use Rattle.ny_eval.proofs.MadeLemmas.{spending, given_up, nothing_left, made_comes}
 use Rattle.ny_eval.proofs.SoundLemmas.{heard_is, timing_of-sound_of}
 use Rattle.ny_eval.proofs.SpentLemmas.{none_some}
 use Rattle.ny_eval.proofs.TurnLemmas.{came_one, came_turns, came_wider}
@@ -54,7 +54,7 @@ turn_plays {B} old new s height left m empty low turn = record {
   place = turn.fresh.begins ∙ omega arith;
   pulled = λ n is.
       let x = turn.fresh.unfilled n is in
-      record { unit = x.unit; there = x.there; shown = x.shown; done = x.done; ranked = record { rank = r.later; falls = r.falls; within = omega (arith, r.low n x.unit (empty.none n) x.there, low) } };
+      record { unit = x.unit; there = x.there; shown = x.shown; done = x.done; only = ap sum x.marks; ranked = record { rank = r.later; falls = r.falls; within = omega (arith, r.low n x.unit (empty.none n) x.there, low) } };
   alone = λ v y at marked. by_reader v y (turn.outside v y at marked);
   heard = λ part.
       let l = turn.means part no_lists (empty_means old part no_lists empty) in
@@ -120,6 +120,14 @@ channel_over old part_heap mid new p a s height rate m t xs laws turn replaces w
     channel_turns old mid new a s (height + 1 + 1) (height + 2) (resampled rate m) t xs (omega arith)
     (replaces old [] (height + 1) (height + 2 + 1) m (omega arith) (came_wider old part_heap (arrival p m (height + 1) ∷ []) (height + 1) (height + 2 + 1) (omega arith) (came_one old part_heap p height m laws turn)))
     when list bounds laws_new makes meaning
+
+-- where memory is missing for the channel, all is as before
+pub channel_refused : {B : Type 0} (old part_heap mid new : HeapState B) (p a : Sound) (height : ℕ) (rate : Rate) (m : sounds.Sound) (xs : List Sound) → HeapLaws old → Turns old part_heap p height m → Replaces part_heap mid p a 1 (resampled rate) → xs ≡ a ∷ [] → HeapLaws new → IsTrimmed (without_sounds mid (xs ++ [])) new → KeepsMeaning mid new → IsAsBefore old new
+channel_refused old part_heap mid new p a height rate m xs laws turn replaces list laws_new trimmed keeps =
+    nothing_left old new (height + 2 + 1)
+    (given_up old mid new (arrival a (resampled rate m) (height + 1 + 1) ∷ []) [] (height + 2 + 1)
+    (replaces old [] (height + 1) (height + 2 + 1) m (omega arith) (came_wider old part_heap (arrival p m (height + 1) ∷ []) (height + 1) (height + 2 + 1) (omega arith) (came_one old part_heap p height m laws turn)))
+    laws_new (subst (λ ys. IsTrimmed (without_sounds mid (ys ++ [])) new) list trimmed) keeps)
 
 -- ---- the channels of a program
 

@@ -1,5 +1,5 @@
 -- One round of the walk, its last fill, and where it stops.
-use Rattle.std.proofs.Common.{◌≡◌, inl, inr, ℕ, suc, ◌+◌, ◌-◌, ◌<◌, Bool, true, false, nat_lt, if◌then◌else◌, IsTrue, IsSomeAnd, List, [], ◌∷◌, ◌++◌, None, Some, sum, Result, Ok, Err, OnOk, OnErr, is_err, refl, sym, ap, subst, ◌∙◌, arith}
+use Rattle.std.proofs.Common.{◌≡◌, inl, inr, ℕ, zero, suc, ◌+◌, ◌-◌, ◌<◌, Bool, true, false, nat_lt, if◌then◌else◌, IsTrue, IsSomeAnd, List, [], ◌∷◌, ◌++◌, None, Some, sum, Result, Ok, Err, OnOk, OnErr, is_err, refl, sym, ap, subst, ◌∙◌, arith}
 use Rattle.std.proofs.lemmas.Bool.{cases_eq}
 use Rattle.ny_heap.specs.Heap.{Waiting, Node, HeapState, node_at, is_open, blocks_of, free_of}
 use Rattle.ny_heap.specs.Means.{KeepsMeaning}
@@ -84,9 +84,9 @@ open_still old mid u left x there so e = subst (λ b. IsTrue (is_open b x)) (sym
 one_more : {B : Type 0} (h : HeapState B) (u left : ℕ) → IsRanked h u left → suc (left - 1) ≡ left
 one_more h u left ranked = omega (arith, ranked.within)
 
-pub fills_then : {B : Type 0} (old mid new : HeapState B) (u left k : ℕ) (us : List ℕ) → IsRanked old u left → FillsWants (FillsInOrder (left - 1)) k old u us mid → want_of mid u ≡ None → Fills mid new u → FillsInOrder left old u (us ++ u ∷ []) new
-fills_then old mid new u left k us ranked wants ready fill =
-    let walk : FillsInOrder (suc (left - 1)) old u (us ++ u ∷ []) new = record { wanted = k; mid = mid; before = us; wants = wants; ready = ready; fill = fill; order = refl } in
+pub fills_then : {B : Type 0} (old mid new : HeapState B) (u left k : ℕ) (us : List ℕ) → IsRanked old u left → FillsWants (FillsInOrder (left - 1)) k old u us mid → want_of mid u ≡ None → 0 < free_of mid → Fills mid new u → HeapLaws new → FillsInOrder left old u (us ++ u ∷ []) new
+fills_then old mid new u left k us ranked wants ready room fill laws =
+    let walk : FillsInOrder (suc (left - 1)) old u (us ++ u ∷ []) new = record { wanted = k; mid = mid; before = us; wants = wants; ready = ready; room = room; fill = fill; laws = laws; order = refl } in
     subst (λ n. FillsInOrder n old u (us ++ u ∷ []) new) (one_more old u left ranked) walk
 
 pub stops_here : {B : Type 0} (old mid new : HeapState B) (u left k : ℕ) (us : List ℕ) → IsRanked old u left → FillsWants (FillsInOrder (left - 1)) k old u us mid → want_of mid u ≡ None → free_of mid ≡ 0 → new ≡ mid → StopsInOrder left old u (us ++ []) new
@@ -143,6 +143,15 @@ stops_apart old mid new u v left x there so e below rank is_rank =
 pub at_ok : {A E : Type 0} (r : Result A E) (P Q : Type 0) → (P → Q) → OnOk r P → OnOk r Q
 at_ok (Ok x) P Q f p = f p
 at_ok (Err e) P Q f p = p
+
+-- where it fails exactly where n is 0
+pub at_ok_some : {A E : Type 0} (r : Result A E) (n : ℕ) (P Q : Type 0) → (n ≡ 0 → IsTrue (is_err r)) → (0 < n → P → Q) → OnOk r P → OnOk r Q
+at_ok_some (Ok x) zero P Q fails f p = absurd (never (fails refl))
+  where
+    never : false ≡ true → ⊥
+    never e = cc
+at_ok_some (Ok x) (suc n) P Q fails f p = f (omega arith) p
+at_ok_some (Err e) n P Q fails f p = p
 
 pub at_err : {A E : Type 0} (r : Result A E) (P Q : Type 0) → (IsTrue (is_err r) → P → Q) → OnErr r P → OnErr r Q
 at_err (Ok x) P Q f p = p

@@ -3,6 +3,8 @@ pub mod BelowLemmas
 pub mod WantLemmas
 pub mod FillLemmas
 pub mod DriveLemmas
+pub mod TwinLemmas
+pub mod WalkLemmas
 pub mod MarkLemmas
 pub mod BuiltLemmas
 pub mod SpentLemmas

@@ -1,6 +1,7 @@
 -- In which order a unit's inputs and the unit are filled.
-use Rattle.std.specs.Prelude.{◌≡◌, ℕ, zero, suc, List, [], ◌∷◌, ◌++◌, ◌⊎◌, None, Some}
+use Rattle.std.specs.Prelude.{◌≡◌, ℕ, zero, suc, ◌<◌, List, [], ◌∷◌, ◌++◌, ◌⊎◌, None, Some}
 use Rattle.ny_heap.specs.Heap.{HeapState, free_of}
+use Rattle.ny_heap.specs.Reach.{HeapLaws}
 use Rattle.ny_heap.specs.Steps.{Fills, want_of}
 
 -- ---- a walk that ends
@@ -12,14 +13,16 @@ FillsWants D zero old u us new = (us ≡ []) × (old ≡ new)
 FillsWants {B} D (suc k) old u us new =
     (mid : HeapState B) × (v : ℕ) × (before : List ℕ) × (ws : List ℕ) × FillsWants D k old u before mid × (want_of mid u ≡ Some v) × D mid v ws new × (us ≡ before ++ ws)
 
--- what u wants is filled until it wants nothing, and then u
+-- what u wants is filled until it wants nothing, and then u, for which a block is free
 pub record FillsThen {B : Type 0} (D : HeapState B → ℕ → List ℕ → HeapState B → Type 0) (old : HeapState B) (u : ℕ) (us : List ℕ) (new : HeapState B) : Type 0 where
   pub wanted : ℕ
   pub mid : HeapState B
   pub before : List ℕ
   pub wants : FillsWants D wanted old u before mid
   pub ready : want_of mid u ≡ None
+  pub room : 0 < free_of mid
   pub fill : Fills mid new u
+  pub laws : HeapLaws new
   pub order : us ≡ before ++ u ∷ []
 
 -- u is filled, and before it, no deeper than so many units, what it needs. `us` has each unit that was filled, in order
@@ -56,3 +59,7 @@ pub record StopsThen {B : Type 0} (D S : HeapState B → ℕ → List ℕ → He
 abbrev pub StopsInOrder : {B : Type 0} → ℕ → HeapState B → ℕ → List ℕ → HeapState B → Type 0
 StopsInOrder zero old u us new = ⊥
 StopsInOrder (suc n) old u us new = StopsThen (FillsInOrder n) (StopsInOrder n) old u us new
+
+-- a fill of the walk finds no block free
+abbrev pub FindsNoneFree : {B : Type 0} → HeapState B → ℕ → Type 0
+FindsNoneFree {B} old u = (deep : ℕ) × (us : List ℕ) × (stop : HeapState B) × StopsInOrder deep old u us stop

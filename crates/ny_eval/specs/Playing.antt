@@ -1,5 +1,5 @@
 -- A sound of a heap that is read a block at a time, and always as far as it is computed.
-use Rattle.std.specs.Prelude.{◌≡◌, ℕ, ◌*◌, min, List, length, Some, ℤ}
+use Rattle.std.specs.Prelude.{◌≡◌, ℕ, ◌*◌, min, List, length, sum, Some, ℤ}
 use Rattle.ny_heap.specs.Heap.{Node, HeapState, node_at, list_of, place_of}
 use Rattle.ny_heap.specs.Means.{Parts, Whole, Means, sound_in}
 use Rattle.ny_heap.specs.Reach.{HeapLaws}
@@ -13,12 +13,13 @@ pub record IsHeard {B : Type 0} (part : Parts B) (h : HeapState B) (s : Sound) (
   pub means : Means part h whole
   pub samples : (sound_in whole.samples (list_of s) s.timing).samples ≡ xs
 
--- the sound's unit shows all of its list, has filled so many blocks, and stands lower than `left`
+-- the sound's unit shows all of its list, has filled so many blocks, is read from outside by this sound alone, and stands lower than `left`
 pub record IsPulled {B : Type 0} (h : HeapState B) (s : Sound) (filled left n : ℕ) : Type 0 where
   pub unit : Node B
   pub there : node_at h n ≡ Some unit
   pub shown : unit.timing.len ≡ s.timing.len
   pub done : unit.filled ≡ filled
+  pub only : sum unit.outside ≡ 1
   pub ranked : IsRanked h n left
 
 -- a sound of these samples after so many pulls of a block each, where its unit has filled so many. Nobody else holds a

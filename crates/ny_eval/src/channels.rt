@@ -1,6 +1,7 @@
-ghost use Rattle.std.specs.Prelude.{◌≡◌, true, IfOk};
+ghost use Rattle.std.specs.Prelude.{◌≡◌, true, IfOk, OnErr};
 ghost use Rattle.ny_eval.specs.Built.{is_built};
 ghost use Rattle.ny_eval.specs.Opened.{SameCounts, IsEmpty, AreOpened};
+ghost use Rattle.ny_eval.specs.Turns.{IsAsBefore};
 
 use crate::expression::eval;
 use crate::unit::brought;
@@ -15,7 +16,7 @@ use std::alloc::{AllocError, Global};
 /// one channel.)
 ///
 /// # Errors
-/// `AllocError` where memory is missing.
+/// `AllocError` where memory is missing. The heap is then as before.
 pub fn eval_channels<B>(
     alloc: Global,
     p: &Program,
@@ -26,6 +27,7 @@ pub fn eval_channels<B>(
     requires empty { IsEmpty heap.old }
     ensures counts { IfOk result (λ sounds. SameCounts heap.old heap.new) }
     ensures opened { IfOk result (λ sounds. AreOpened p.now rate heap.new sounds.items) }
+    ensures refused { OnErr result (IsAsBefore heap.old heap.new) }
 {
     let mut parts = Vec::with_capacity(alloc, 1)?;
     let mut channels = Vec::with_capacity(alloc, 1)?;

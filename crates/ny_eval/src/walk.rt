@@ -1,9 +1,9 @@
-ghost use Rattle.std.specs.Prelude.{◌≡◌, ℕ, List, IsTrue, IsSomeAnd, OnOk, OnErr};
+ghost use Rattle.std.specs.Prelude.{◌≡◌, ◌↔◌, ℕ, List, IsTrue, IsSomeAnd, OnOk, OnErr, is_err};
 ghost use Rattle.ny_heap.specs.Heap.{node_at, is_open, free_of};
 ghost use Rattle.ny_heap.specs.Means.{KeepsMeaning};
 ghost use Rattle.ny_heap.specs.Reach.{HeapLaws};
 ghost use Rattle.ny_eval.specs.Opened.{height_of};
-ghost use Rattle.ny_eval.specs.Order.{FillsInOrder, StopsInOrder};
+ghost use Rattle.ny_eval.specs.Order.{FillsInOrder, StopsInOrder, FindsNoneFree};
 ghost use Rattle.ny_eval.specs.Below.{IsSettled, IsRank, IsRanked, Below, ComesFrom, Drives};
 
 use ny_check::Program;
@@ -39,7 +39,7 @@ fn drive_within<B>(heap: &mut Heap<B>, u: UnitId, left: u64) -> Result<(), FillF
 /// program, so no unit stands higher than the program's table lets it.
 ///
 /// # Errors
-/// `PoolFull` where a fill finds no free block. The fills before it stay done.
+/// `PoolFull` exactly where a fill finds no free block. The fills before it stay done.
 pub fn drive<B>(p: &Program, heap: &mut Heap<B>, u: UnitId) -> Result<(), FillFault>
     requires laws { HeapLaws heap.old }
     requires open { IsSomeAnd (node_at heap.old u.0.0) (λ x. IsTrue (is_open heap.old.block x)) }
@@ -52,6 +52,7 @@ pub fn drive<B>(p: &Program, heap: &mut Heap<B>, u: UnitId) -> Result<(), FillFa
     ensures stops { OnErr result ((us : List ℕ) × StopsInOrder (height_of p.now) heap.old u.0.0 us heap.new) }
     ensures below { OnErr result ((rank : ℕ → ℕ) → IsRank heap.old rank → Below heap.old heap.new rank (rank u.0.0)) }
     ensures full { OnErr result (free_of heap.new ≡ 0) }
+    ensures exact { IsTrue (is_err result) ↔ FindsNoneFree heap.old u.0.0 }
     ensures comes { ComesFrom heap.old heap.new }
     ensures keeps { KeepsMeaning heap.old heap.new }
 {

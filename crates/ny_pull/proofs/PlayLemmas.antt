@@ -1,14 +1,15 @@
 -- One pull of a sound: when it has ended, what is filled, what is read.
-use Rattle.std.proofs.Common.{◌≡◌, ◌⊎◌, inl, inr, ℕ, ◌+◌, ◌-◌, ◌*◌, ◌/◌, ◌<◌, ◌≤◌, ◌==◌, min, Bool, true, false, cond, IsTrue, IsSomeAnd, if◌then◌else◌, List, length, take, drop, slice_index, slice_set, Option, None, Some, refl, sym, ap, subst, ◌∙◌, arith, ℤ, length-take, length-drop}
+use Rattle.std.proofs.Common.{◌≡◌, ◌⊎◌, inl, inr, ℕ, zero, suc, ◌+◌, ◌-◌, ◌*◌, ◌/◌, ◌<◌, ◌≤◌, ◌==◌, min, Bool, true, false, cond, IsTrue, IsSomeAnd, if◌then◌else◌, List, [], ◌∷◌, length, sum, take, drop, slice_index, slice_set, Option, None, Some, refl, sym, ap, subst, ◌∙◌, arith, ℤ, length-take, length-drop}
 use Rattle.std.proofs.lemmas.Bool.{cases_eq, eqb-true, ltb-true, lt-ltb}
 use Rattle.std.proofs.lemmas.List.{take_min, length-set}
 use Rattle.std.proofs.lemmas.Nat.{mul-le}
 use Rattle.std.proofs.Math.Nat.{le-div_iff_mul-le, mul-div_cancel}
+use Rattle.std.specs.List.{fold}
 use Rattle.std.specs.Option.{option_map_or}
 use Rattle.ny_heap.specs.Heap.{Node, HeapState, node_at, list_of, place_of, is_open, open_unit, blocks_of, stands_in, computed_of}
 use Rattle.ny_heap.specs.Means.{KeepsMeaning, sound_in}
 use Rattle.ny_heap.specs.Reach.{HeapLaws, IsReachable, IsTrimmed}
-use Rattle.ny_heap.specs.Steps.{IsCounted, IsHeldAt, IsHeldSound, Passes, advanced, run_of, computed_in}
+use Rattle.ny_heap.specs.Steps.{IsCounted, IsHeldAt, IsHeldSound, Passes, changed, without_mark, without_sound, advanced, run_of, computed_in}
 use Rattle.ny_heap.specs.declared.sound.Sound.{Sound}
 use Rattle.ny_num.specs.Sound.{IsTiming}
 use Rattle.ny_num.specs.Grid.{last_index}
@@ -16,10 +17,11 @@ use Rattle.ny_num.specs.declared.rate.Rate.{Rate}
 use Rattle.ny_num.specs.declared.rate.Rate.TheVariants.{R2205, R4410, R8000, R11025, R16000, R22050, R32000, R44100, R48000}
 use Rattle.ny_eval.specs.Below.{ComesFrom, IsSettled, IsRank, IsRanked, Continues, Below, Drives}
 use Rattle.ny_eval.specs.Playing.{IsPulled, IsPlaying}
+use Rattle.ny_pull.specs.Inside.{IsOver}
 use Rattle.ny_eval.proofs.BelowLemmas.{some_same, same_at, and_some, held_above}
 use Rattle.ny_eval.proofs.WantLemmas.{short_is_open}
 use Rattle.ny_eval.proofs.FillLemmas.{reached_stays}
-use Rattle.ny_eval.proofs.MarkLemmas.{Alike, advanced_by, advanced_node, advanced_same, advanced_from, advanced_other, uses_alike, mark_counts, mark_set}
+use Rattle.ny_eval.proofs.MarkLemmas.{Alike, changed_same, changed_other, advanced_by, advanced_node, advanced_same, advanced_from, advanced_other, uses_alike, mark_counts, mark_set}
 
 -- ---- has it ended
 
@@ -110,7 +112,7 @@ plays_on {B} old new s xs pulls filled later left u y playing list laws settled 
   held = (playing.held.0, subst (λ o. IsHeldAt new s o) (sym list) held_now);
   len = playing.len;
   place = subst (λ b. place_of s ≡ min (pulls * b) (length xs)) (sym block) playing.place;
-  pulled = λ n is. subst (λ m. IsPulled new s later left m) (some_same u n (sym list ∙ is)) (record { unit = y; there = there; shown = ap (λ t. t.len) (on p.unit p.there).timing ∙ p.shown; done = done; ranked = ranked });
+  pulled = λ n is. subst (λ m. IsPulled new s later left m) (some_same u n (sym list ∙ is)) (record { unit = y; there = there; shown = ap (λ t. t.len) (on p.unit p.there).timing ∙ p.shown; done = done; only = (on p.unit p.there).outside ∙ p.only; ranked = ranked });
   alone = λ v z at some. let x = comes v z at in playing.alone v x.0 x.1 (omega (arith, some, x.2));
   heard = λ part.
       let was = playing.heard part in
@@ -174,6 +176,14 @@ stopped_size old new s xs pulls left u playing list below =
     let d = below p.ranked.rank p.ranked.falls in
     (d.pool, d.block)
 
+-- and its unit is as open as it was
+pub stopped_open : {B : Type 0} (old new : HeapState B) (s : Sound) (xs : List ℤ) (pulls left u : ℕ) → IsPlaying old s xs pulls pulls left → list_of s ≡ Some u → ((rank : ℕ → ℕ) → IsRank old rank → Below old new rank (rank u)) → open_unit old (list_of s) ≡ Some u → open_unit new (list_of s) ≡ Some u
+stopped_open old new s xs pulls left u playing list below e =
+    let p = playing.pulled u list in
+    let d = below p.ranked.rank p.ranked.falls in
+    let same : node_at new u ≡ node_at old u = (d.same u p.unit p.there (omega arith)).0 ∙ sym p.there in
+    ap (open_unit new) list ∙ ((λ i. option_map_or (λ x. if is_open (d.block i) x then Some u else None) (same i) None) ∙ (sym (ap (open_unit old) list) ∙ e))
+
 -- ---- what is read
 
 -- how many samples a pull gives
@@ -215,6 +225,28 @@ stands_within p b len some = by_end (min ((p + 1) * b) len == len) refl
           absurd (omega (arith, fits, two_more p b, some))
       | inr few ↦ few
     ]
+
+-- one mark fewer, and one more
+fold_more : (a : ℕ) (ns : List ℕ) → fold ◌+◌ (a + 1) ns ≡ fold ◌+◌ a ns + 1
+fold_more a [] = omega arith
+fold_more a (n ∷ ns) = let turned : a + 1 + n ≡ a + n + 1 = omega arith in ap (λ m. fold ◌+◌ m ns) turned ∙ fold_more (a + n) ns
+
+pub mark_less : (ns : List ℕ) (j : ℕ) → 0 < slice_index ns j → sum (slice_set ns j (slice_index ns j - 1)) + 1 ≡ sum ns
+mark_less ns j some = from 0 ns j some
+  where
+    from : (a : ℕ) (ns : List ℕ) (j : ℕ) → 0 < slice_index ns j → fold ◌+◌ a (slice_set ns j (slice_index ns j - 1)) + 1 ≡ fold ◌+◌ a ns
+    from a [] zero some = absurd (omega (arith, some))
+    from a [] (suc j) some = absurd (omega (arith, some))
+    from a (n ∷ ns) zero some = let back : a + (n - 1) + 1 ≡ a + n = omega (arith, some) in sym (fold_more (a + (n - 1)) ns) ∙ ap (λ m. fold ◌+◌ m ns) back
+    from a (n ∷ ns) (suc j) some = from (a + n) ns j some
+
+pub mark_more : (ns : List ℕ) (j : ℕ) → j < length ns → sum (slice_set ns j (slice_index ns j + 1)) ≡ sum ns + 1
+mark_more ns j within = from 0 ns j within
+  where
+    from : (a : ℕ) (ns : List ℕ) (j : ℕ) → j < length ns → fold ◌+◌ a (slice_set ns j (slice_index ns j + 1)) ≡ fold ◌+◌ a ns + 1
+    from a [] j within = absurd (omega (arith, within))
+    from a (n ∷ ns) zero within = let turned : a + (n + 1) ≡ a + n + 1 = omega arith in ap (λ m. fold ◌+◌ m ns) turned ∙ fold_more (a + n) ns
+    from a (n ∷ ns) (suc j) within = from (a + n) ns j (omega (arith, within))
 
 -- the sound's unit as it is read
 pub record Played {B : Type 0} (old new : HeapState B) (s to : Sound) (xs : List ℤ) (pulls left n : ℕ) : Type 0 where
@@ -281,6 +313,18 @@ module _ {B : Type 0} (old new : HeapState B) (s to : Sound) (xs : List ℤ) (pu
       let within : j < length less = omega (arith, length-set p.unit.outside k (slice_index p.unit.outside k - 1), marked_within) in
       omega (arith, mark_set less j (slice_index less j + 1) within)
 
+  -- it is still the only one
+  only_now : sum (advanced_node old.block (place_of s) (place_of to) p.unit).outside ≡ 1
+  only_now =
+      let j = stands_in old.block p.unit.timing.len (place_of to) in
+      let k = stands_in old.block p.unit.timing.len (place_of s) in
+      let less : List ℕ = slice_set p.unit.outside k (slice_index p.unit.outside k - 1) in
+      let within : j < length less = omega (arith, length-set p.unit.outside k (slice_index p.unit.outside k - 1), marked_within) in
+      let c = counted old s u playing.held list in
+      let same : c.unit ≡ p.unit = same_at (node_at old u) c.unit p.unit c.there p.there in
+      let stands : 0 < slice_index p.unit.outside k = subst (λ (x : Node B). 0 < slice_index x.outside (stands_in old.block x.timing.len (place_of s))) same c.stands in
+      omega (arith, mark_less p.unit.outside k stands, mark_more less j within, p.only)
+
   there_between : node_at (advanced_by old (Some u) (Some u) (place_of s) (place_of to)) u ≡ Some (advanced_node old.block (place_of s) (place_of to) p.unit)
   there_between = advanced_same old u (place_of s) (place_of to) p.unit p.there
 
@@ -327,6 +371,7 @@ module _ {B : Type 0} (old new : HeapState B) (s to : Sound) (xs : List ℤ) (pu
         there = there_now;
         shown = p.shown ∙ sym (ap (λ t. t.len) passes.timing);
         done = p.done;
+        only = only_now;
         ranked = record { rank = p.ranked.rank; falls = λ a b uses. p.ranked.falls a b (uses_alike old new from_old a b uses); within = p.ranked.within };
       });
       alone = λ v y at some. elim (cases_eq v u) [
@@ -384,3 +429,53 @@ few_pulls h s xs pulls left u playing e =
     let short = (open_of h s xs pulls left u playing e).short in
     let times = mul-le pulls 1 pulls h.block (omega arith) playing.laws.positive in
     omega (arith, short, times, playing.len, playing.held.0.ends, hour_of s.timing.rate)
+
+-- ---- what has ended
+
+-- once all of it was read, the sound is given up, and nothing is left
+pub over_then : {B : Type 0} (old new : HeapState B) (s : Sound) (xs : List ℤ) (pulls left : ℕ) → IsPlaying old s xs pulls pulls left → open_unit old (list_of s) ≡ None → HeapLaws new → IsTrimmed (without_sound old s) new → IsOver new xs pulls
+over_then {B} old new s xs pulls left playing none laws trimmed = record {
+  laws = laws;
+  over = omega (arith, ended_of old s xs pulls left playing none, ap (λ b. pulls * b) block);
+  none = λ v. by_node v (node_at new v) refl;
+}
+  where
+    -- nothing is read from outside any more
+    quiet : (v : ℕ) (y : Node B) → node_at (without_sound old s) v ≡ Some y → 0 < sum y.outside → ⊥
+    quiet v y at some = by_list (list_of s) refl at
+      where
+        by_list : (o : Option ℕ) → list_of s ≡ o → node_at (changed old o (λ x. without_mark (stands_in old.block x.timing.len (place_of s)) x)) v ≡ Some y → ⊥
+        by_list None e there = never (sym e ∙ playing.alone v y there some)
+          where
+            never : None ≡ Some v → ⊥
+            never q = cc
+        by_list (Some n) e there = elim (cases_eq v n) [
+          | inl same ↦
+              let p = playing.pulled n e in
+              let c = counted old s n playing.held e in
+              let unit : c.unit ≡ p.unit = same_at (node_at old n) c.unit p.unit c.there p.there in
+              let stands : 0 < slice_index p.unit.outside (stands_in old.block p.unit.timing.len (place_of s)) = subst (λ (x : Node B). 0 < slice_index x.outside (stands_in old.block x.timing.len (place_of s))) unit c.stands in
+              let now : without_mark (stands_in old.block p.unit.timing.len (place_of s)) p.unit ≡ y = same_at (node_at (changed old (Some n) (λ x. without_mark (stands_in old.block x.timing.len (place_of s)) x)) n) _ _ (changed_same old n (λ x. without_mark (stands_in old.block x.timing.len (place_of s)) x) p.unit p.there) (ap (node_at (changed old (Some n) (λ x. without_mark (stands_in old.block x.timing.len (place_of s)) x))) (sym same) ∙ there) in
+              omega (arith, some, ap (λ (x : Node B). sum x.outside) now, mark_less p.unit.outside (stands_in old.block p.unit.timing.len (place_of s)) stands, p.only)
+          | inr other ↦ other (some_same v n (sym (playing.alone v y (sym (changed_other old n (λ x. without_mark (stands_in old.block x.timing.len (place_of s)) x) v other) ∙ there) some) ∙ e))
+        ]
+
+    block : new.block ≡ old.block
+    block = trimmed.size.block ∙ by_list (list_of s)
+      where
+        by_list : (o : Option ℕ) → (changed old o (λ x. without_mark (stands_in old.block x.timing.len (place_of s)) x)).block ≡ old.block
+        by_list None = refl
+        by_list (Some n) = refl
+
+    by_node : (v : ℕ) (o : Option (Node B)) → node_at new v ≡ o → node_at new v ≡ None
+    by_node v None e = e
+    by_node v (Some y) e =
+        let root = (laws.nodes v y e).reached.1 in
+        absurd (quiet (laws.nodes v y e).reached.0 root.unit (trimmed.kept (laws.nodes v y e).reached.0 root.unit root.there) root.some)
+
+pub over_size : {B : Type 0} (old new : HeapState B) (s : Sound) → IsTrimmed (without_sound old s) new → (new.pool ≡ old.pool) × (new.block ≡ old.block)
+over_size {B} old new s trimmed = (trimmed.size.pool ∙ (by_list (list_of s)).0, trimmed.size.block ∙ (by_list (list_of s)).1)
+  where
+    by_list : (o : Option ℕ) → ((changed old o (λ x. without_mark (stands_in old.block x.timing.len (place_of s)) x)).pool ≡ old.pool) × ((changed old o (λ x. without_mark (stands_in old.block x.timing.len (place_of s)) x)).block ≡ old.block)
+    by_list None = (refl, refl)
+    by_list (Some n) = (refl, refl)

@@ -1,23 +1,24 @@
 -- What a contract sees of an engine: what it plays, how much of each channel was pulled, and its heap.
-use Rattle.std.specs.Prelude.{◌≡◌, ℕ, ◌+◌, ◌*◌, ◌<◌, ◌≤◌, List, Option, Some, slice_index, slice_index_or, slice_get, slice_set, length, take, drop, sum, ℤ}
+use Rattle.std.specs.Prelude.{◌≡◌, ℕ, ◌+◌, ◌*◌, ◌<◌, ◌≤◌, List, Option, None, Some, IsSome, slice_index, slice_index_or, slice_get, slice_set, length, take, drop, sum, ℤ}
 use Rattle.ny_num.specs.declared.rate.Rate.{Rate}
 use Rattle.ny_num.specs.Sound.{silence}
 use Rattle.ny_heap.specs.Heap.{Node, HeapState, node_at, list_of, open_unit}
+use Rattle.ny_heap.specs.Means.{Parts, Whole, Means, sound_in}
 use Rattle.ny_heap.specs.Reach.{IsTrimmed}
-use Rattle.ny_heap.specs.Steps.{Passes, advanced}
+use Rattle.ny_heap.specs.Steps.{Passes, without_sound, advanced}
 use Rattle.ny_heap.specs.declared.sound.Sound.{Sound}
 use Rattle.ny_pull.specs.declared.fault.PullFault.{PullFault}
 use Rattle.ny_pull.specs.declared.fault.PullFault.TheVariants.{PoolFull}
 use Rattle.ny_check.specs.Code.{Code}
 use Rattle.ny_check.specs.Channels.{channels}
-use Rattle.ny_eval.specs.Order.{FillsInOrder, StopsInOrder}
+use Rattle.ny_eval.specs.Order.{FillsInOrder, StopsInOrder, FindsNoneFree}
 
--- `channels` has for each channel what is still to be pulled of it, `pulled` how many pulls of it gave samples. `spent`
+-- `channels` has for each channel what is still to be pulled of it, and none once all of it was given. `pulled` has how many pulls of it gave samples. `spent`
 -- is the fault that ended the engine. No part waits yet, so the type of the heap's waiting parts says nothing
 pub record EngineState : Type 0 where
   pub code : Code
   pub rate : Rate
-  pub channels : List Sound
+  pub channels : List (Option Sound)
   pub pulled : List ℕ
   pub spent : Option PullFault
   pub heap : HeapState (Unit {0})
@@ -41,7 +42,18 @@ HasEnded e c = length (channel_at e c) ≤ passed_of e c
 -- no list is read from outside the heap but by what is still to be pulled of a channel
 abbrev pub IsReadByChannels : EngineState → Type 0
 IsReadByChannels e =
-    (v : ℕ) (x : Node (Unit {0})) → node_at e.heap v ≡ Some x → 0 < sum x.outside → (c : ℕ) × (s : Sound) × (slice_get e.channels c ≡ Some s) × (list_of s ≡ Some v)
+    (v : ℕ) (x : Node (Unit {0})) → node_at e.heap v ≡ Some x → 0 < sum x.outside → (c : ℕ) × (s : Sound) × (slice_get e.channels c ≡ Some (Some s)) × (list_of s ≡ Some v)
+
+-- where the waiting parts are these, the heap holds parts of whole lists, and each channel that is still to be pulled is that of
+-- the strict meaning
+pub record MeansChannels (part : Parts (Unit {0})) (e : EngineState) : Type 0 where
+  pub whole : Whole
+  pub means : Means part e.heap whole
+  pub each : (c : ℕ) (s : Sound) → slice_get e.channels c ≡ Some (Some s) → (sound_in whole.samples (list_of s) s.timing).samples ≡ channel_at e c
+
+-- whatever the waiting parts are
+abbrev pub MeansItsChannels : EngineState → Type 0
+MeansItsChannels e = (part : Parts (Unit {0})) → MeansChannels part e
 
 -- one pull more of channel c that gave samples
 abbrev pub with_pull : List ℕ → ℕ → List ℕ
@@ -55,10 +67,16 @@ pub record SamePiece (old new : EngineState) : Type 0 where
   pub pool : new.heap.pool ≡ old.heap.pool
   pub block : new.heap.block ≡ old.heap.block
 
--- a pull of channel c gives n samples. What its next block needs is filled, in order, and then read
+-- what is left of a sound: the sound while some of it is to be read, and then nothing, since it is given up
+abbrev pub Leaves : {B : Type 0} → HeapState B → HeapState B → Sound → Option Sound → Type 0
+Leaves old new s None = (open_unit old (list_of s) ≡ None) × IsTrimmed (without_sound old s) new
+Leaves old new s (Some rest) = IsSome (open_unit old (list_of s)) × (rest ≡ s) × (new ≡ old)
+
+-- a pull of channel c gives n samples. What its next block needs is filled, in order, and then read. With its last block the sound
+-- is given up
 pub record GivesBlock (old new : EngineState) (c n : ℕ) : Type 0 where
   pub before : Sound
-  pub was : slice_get old.channels c ≡ Some before
+  pub was : slice_get old.channels c ≡ Some (Some before)
   pub unit : ℕ
   pub «open» : open_unit old.heap (list_of before) ≡ Some unit
   pub deep : ℕ
@@ -67,19 +85,30 @@ pub record GivesBlock (old new : EngineState) (c n : ℕ) : Type 0 where
   pub fills : FillsInOrder deep old.heap unit order filled
   pub after : Sound
   pub passes : Passes before after n
-  pub now : new.channels ≡ slice_set old.channels c after
-  pub read : IsTrimmed (advanced filled before after) new.heap
+  pub read : HeapState (Unit {0})
+  pub reads : IsTrimmed (advanced filled before after) read
+  pub left : Option Sound
+  pub leaves : Leaves read new.heap after left
+  pub now : new.channels ≡ slice_set old.channels c left
 
 -- a pull of channel c stops: what its next block needs is filled, in order, to the first fill that finds no free block
 pub record StopsAtFull (old new : EngineState) (c : ℕ) : Type 0 where
   pub before : Sound
-  pub was : slice_get old.channels c ≡ Some before
+  pub was : slice_get old.channels c ≡ Some (Some before)
   pub unit : ℕ
   pub «open» : open_unit old.heap (list_of before) ≡ Some unit
   pub deep : ℕ
   pub order : List ℕ
   pub stops : StopsInOrder deep old.heap unit order new.heap
   pub now : new.channels ≡ old.channels
+
+-- what the next block of channel c needs can't be filled: a fill of it finds no block free
+pub record NeedsMore (e : EngineState) (c : ℕ) : Type 0 where
+  pub before : Sound
+  pub was : slice_get e.channels c ≡ Some (Some before)
+  pub unit : ℕ
+  pub «open» : open_unit e.heap (list_of before) ≡ Some unit
+  pub full : FindsNoneFree e.heap unit
 
 -- the fault of an engine whose pool is full
 abbrev pub full_of : EngineState → PullFault

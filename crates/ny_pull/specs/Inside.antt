@@ -1,6 +1,7 @@
 -- What holds of an engine between two calls.
-use Rattle.std.specs.Prelude.{◌≡◌, ℕ, [], ◌∷◌, Option, Some}
-use Rattle.ny_heap.specs.Heap.{HeapState, live_of}
+use Rattle.std.specs.Prelude.{◌≡◌, ℕ, ◌*◌, ◌≤◌, List, [], ◌∷◌, Option, None, Some, length, ℤ}
+use Rattle.ny_heap.specs.Heap.{HeapState, node_at, list_of, open_unit, live_of}
+use Rattle.ny_heap.specs.Reach.{HeapLaws}
 use Rattle.ny_heap.specs.declared.sound.Sound.{Sound}
 use Rattle.ny_num.specs.declared.rate.Rate.{Rate}
 use Rattle.ny_num.specs.Sound as sounds
@@ -11,10 +12,28 @@ use Rattle.ny_pull.specs.declared.fault.PullFault.TheVariants.{PoolFull}
 use Rattle.ny_eval.specs.Opened.{height_of}
 use Rattle.ny_eval.specs.Playing.{IsPlaying}
 
-pub record IsEngineInside (code : Code) (rate : Rate) (h : HeapState (Unit {0})) (s : Sound) (pulls : ℕ) (spent : Option PullFault) : Type 0 where
+-- all of a sound of these samples was given, and there is no unit any more
+pub record IsOver {B : Type 0} (h : HeapState B) (xs : List ℤ) (pulls : ℕ) : Type 0 where
+  pub laws : HeapLaws h
+  pub over : length xs ≤ pulls * h.block
+  pub none : (v : ℕ) → node_at h v ≡ None
+
+-- a sound of which some is still to be given
+pub record IsUnderWay {B : Type 0} (h : HeapState B) (s : Sound) (xs : List ℤ) (pulls left : ℕ) : Type 0 where
+  pub playing : IsPlaying h s xs pulls pulls left
+  pub unit : ℕ
+  pub «open» : open_unit h (list_of s) ≡ Some unit
+
+-- the sound is in the engine's hands for as long as some of it is to be given
+abbrev pub IsStill : {B : Type 0} → HeapState B → Option Sound → List ℤ → ℕ → ℕ → Type 0
+IsStill h None xs pulls left = IsOver h xs pulls
+IsStill h (Some s) xs pulls left = IsUnderWay h s xs pulls left
+
+pub record IsEngineInside (code : Code) (rate : Rate) (h : HeapState (Unit {0})) (o : Option Sound) (frames pulls : ℕ) (spent : Option PullFault) : Type 0 where
   -- the one channel
   pub channel : sounds.Sound
   pub one : channels code rate ≡ channel ∷ []
-  pub playing : IsPlaying h s channel.samples pulls pulls (height_of code)
+  pub len : frames ≡ length channel.samples
+  pub still : IsStill h o channel.samples pulls (height_of code)
   -- where it is spent, all blocks are taken
   pub full : (fault : PullFault) → spent ≡ Some fault → (fault ≡ PoolFull pulls h.pool) × (live_of h ≡ h.pool)

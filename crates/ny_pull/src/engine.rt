@@ -1,10 +1,12 @@
-ghost use Rattle.std.specs.Prelude.{◌≡◌, ℕ, ◌<◌, ◌≤◌, ◌↔◌, ◌++◌, [], ◌∷◌, ◌⊎◌, nat_lt, if◌then◌else◌, IsTrue, true, None, Some, Ok, Err, IfSome, IfOk, IfErr, OnOk, OnErr, length, drop, sum};
+ghost use Rattle.std.specs.Prelude.{◌≡◌, ℕ, ◌<◌, ◌≤◌, ◌↔◌, ◌++◌, [], ◌∷◌, ◌⊎◌, nat_lt, if◌then◌else◌, IsTrue, true, None, Some, Ok, Err, IfSome, IfOk, IfErr, OnOk, OnErr, is_err, length, drop, sum};
 ghost use Rattle.ny_num.specs.Grid.{last_index};
 ghost use Rattle.ny_check.specs.Channels.{channels};
 ghost use Rattle.ny_eval.specs.Built.{is_built};
 ghost use Rattle.ny_heap.specs.Heap.{live_of};
+ghost use Rattle.ny_heap.specs.Means.{KeepsMeaning};
 ghost use Rattle.ny_heap.specs.Reach.{HeapLaws};
-ghost use Rattle.ny_pull.specs.Engine.{EngineState, channel_at, next_block, HasEnded, IsReadByChannels, with_pull, SamePiece, GivesBlock, StopsAtFull, full_of};
+ghost use Rattle.ny_heap.specs.Steps.{IsHeldSound};
+ghost use Rattle.ny_pull.specs.Engine.{EngineState, channel_at, next_block, HasEnded, IsReadByChannels, with_pull, SamePiece, MeansItsChannels, Leaves, GivesBlock, StopsAtFull, NeedsMore, full_of};
 
 use crate::fault::PullFault;
 use ny_check::Program;
@@ -14,14 +16,31 @@ use ny_num::{Rate, Sample};
 use std::alloc::{AllocError, Global};
 use std::marker::Model;
 
+/// What is left of a sound: the sound itself while some of it is to be read, and else nothing. It is
+/// given up then.
+fn left(heap: &mut Heap<()>, sound: Sound) -> Option<Sound>
+    requires laws { HeapLaws heap.old }
+    requires held { IsHeldSound heap.old sound }
+    ensures laws { HeapLaws heap.new }
+    ensures left { Leaves heap.old heap.new sound result }
+    ensures keeps { KeepsMeaning heap.old heap.new }
+{
+    if heap.unit_of(&sound).is_some() {
+        return Some(sound);
+    }
+    heap.release(sound);
+    None
+}
+
 /// One channel that is computed as it is pulled, a block at a time.
 #[derive(Drop)]
 pub struct Engine {
     program: Program,
     rate: Rate,
     heap: Heap<()>,
-    // What is still to be pulled.
-    channel: Sound,
+    // What is still to be pulled, and none once all of it was given.
+    channel: Option<Sound>,
+    frames: u32,
     pulls: u64,
     spent: Option<PullFault>,
 }
@@ -36,7 +55,7 @@ impl Model for Engine {
 
     ghost view = { λ e. record { code = e.program; rate = e.rate; channels = e.channel ∷ []; pulled = e.pulls ∷ []; spent = e.spent; heap = e.heap } };
 
-    ghost invariant = { λ e. IsEngineInside e.program e.rate e.heap e.channel e.pulls e.spent };
+    ghost invariant = { λ e. IsEngineInside e.program e.rate e.heap e.channel e.frames e.pulls e.spent };
 }
 
 impl Engine {
@@ -61,17 +80,21 @@ impl Engine {
         ensures unfilled { IfOk result (λ e. (e.heap.fills ≡ 0) × (e.heap.peak ≡ 0)) }
         ensures hour { IfOk result (λ e. length (channel_at e 0) ≤ last_index rate) }
         ensures laws { IfOk result (λ e. HeapLaws e.heap) }
+        ensures means { IfOk result (λ e. MeansItsChannels e) }
     {
         let mut heap = Heap::open(alloc, pool, block)?;
         let mut sounds = eval_channels(alloc, &program, rate, &mut heap)?;
-        let Some(channel) = sounds.pop() else {
+        let Some(sound) = sounds.pop() else {
             unreachable!()
         };
+        let frames = sound.timing.len;
+        let channel = left(&mut heap, sound);
         Ok(Engine {
             program,
             rate,
             heap,
             channel,
+            frames,
             pulls: 0,
             spent: None,
         })
@@ -89,7 +112,7 @@ impl Engine {
     pub fn frames(&self) -> u32
         ensures { result ≡ length (channel_at self.now 0) }
     {
-        self.channel.timing.len
+        self.frames
     }
 
     /// How many pulls gave samples.
@@ -104,14 +127,14 @@ impl Engine {
         requires { c < length self.now.channels }
         ensures { IsTrue result ↔ HasEnded self.now c }
     {
-        self.heap.unit_of(&self.channel).is_none()
+        self.channel.is_none()
     }
 
     /// The next samples of channel `c`, to the front of `out`: a block of them, or what is left.
     /// Answers how many, 0 exactly where the channel has ended. `out` has the block's length.
     ///
     /// # Errors
-    /// `PoolFull` where a fill found no free block. The engine is spent then, and answers the same
+    /// `PoolFull` exactly where a fill finds no free block. The engine is spent then, and answers the same
     /// at each later pull.
     pub fn pull(&mut self, _alloc: Global, c: u32, out: &mut [Sample]) -> Result<usize, PullFault>
         requires channel { c < length self.old.channels }
@@ -126,25 +149,33 @@ impl Engine {
         ensures nothing { OnErr result ((out.new ≡ out.old) × (self.new.pulled ≡ self.old.pulled)) }
         ensures spent { IfErr result (λ fault. self.new.spent ≡ Some fault) }
         ensures full { IfErr result (λ fault. (fault ≡ full_of self.old) × (live_of self.new.heap ≡ self.new.heap.pool)) }
+        ensures exact { self.old.spent ≡ None → (IsTrue (is_err result) ↔ NeedsMore self.old c) }
         ensures stops { OnErr result (self.old.spent ≡ None → StopsAtFull self.old self.new c) }
         ensures same { SamePiece self.old self.new }
         ensures laws { HeapLaws self.new.heap }
+        ensures means { MeansItsChannels self.new }
     {
         if let Some(fault) = self.spent {
             return Err(fault);
         }
-        let Some(unit) = self.heap.unit_of(&self.channel) else {
+        let Some(channel) = self.channel.take() else {
             return Ok(0);
+        };
+        let Some(unit) = self.heap.unit_of(&channel) else {
+            unreachable!()
         };
         if drive(&self.program, &mut self.heap, unit).is_err() {
             let fault = PullFault::PoolFull {
                 pulls: self.pulls,
                 live: self.heap.live(),
             };
+            self.channel = Some(channel);
             self.spent = Some(fault);
             return Err(fault);
         }
-        let count = self.heap.read(&mut self.channel, out);
+        let mut rest = channel;
+        let count = self.heap.read(&mut rest, out);
+        self.channel = left(&mut self.heap, rest);
         self.pulls += 1;
         Ok(count)
     }

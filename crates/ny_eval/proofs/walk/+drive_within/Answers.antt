@@ -3,7 +3,7 @@ use Rattle.ny_heap.specs.Heap.{is_open}
 use Rattle.ny_heap.specs.Steps.{IsSettledUnit}
 use Rattle.ny_eval.specs.Below.{ComesFrom, IsSettled, Below}
 use Rattle.ny_eval.proofs.BelowLemmas.{some_and, and_some}
-use Rattle.ny_eval.proofs.DriveLemmas.{comes_more, fill_comes, next_open, next_ranked, open_still, stops_below, stops_here, stops_apart, fills_then, wants_none, wants_more, wants_less, settled_on, fill_drives, at_ok, at_err, on_err, either}
+use Rattle.ny_eval.proofs.DriveLemmas.{comes_more, fill_comes, next_open, next_ranked, open_still, stops_below, stops_here, stops_apart, fills_then, wants_none, wants_more, wants_less, settled_on, fill_drives, at_ok, at_ok_some, at_err, on_err, either}
 use Rattle.ny_eval.proofs.walk.+drive_within.Goals as goal
 
 pub loop-v-init : goal.loop-v-init
@@ -74,7 +74,7 @@ returns-clause-settled g t c =
 pub returns-clause-order : goal.returns-clause-order
 returns-clause-order g t c =
     let so = c.loop-v.invariant.1 in
-    at_ok c.fill.result _ _ (λ fills. (so.1 ++ c.args.u.0.0 ∷ [], fills_then c.args.heap.now c.loop-v.heap c.fill.new.self c.args.u.0.0 c.args.left so.0 so.1 c.requires.ranked so.2 (sym c.in_default.ensures.first) fills)) c.fill.ensures.fills
+    at_ok_some c.fill.result _ _ _ c.fill.ensures.full.1 (λ room fills. (so.1 ++ c.args.u.0.0 ∷ [], fills_then c.args.heap.now c.loop-v.heap c.fill.new.self c.args.u.0.0 c.args.left so.0 so.1 c.requires.ranked so.2 (sym c.in_default.ensures.first) room fills c.fill.ensures.laws)) c.fill.ensures.fills
 
 pub returns-clause-drives : goal.returns-clause-drives
 returns-clause-drives g t c =
