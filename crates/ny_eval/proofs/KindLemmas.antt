@@ -2,7 +2,6 @@
 use Rattle.std.proofs.Common.{◌≡◌, ℕ, zero, suc, ◌+◌, ◌<◌, Bool, true, false, nat_lt, if◌then◌else◌, List, [], ◌∷◌, refl, sym, ap, subst, ◌∙◌, ℤ}
 use Rattle.std.proofs.lemmas.Bool.{ltb-true}
 use Rattle.ny_warp.specs.declared.env.Env.{Env}
-use Rattle.ny_warp.specs.declared.map.Point.{Point}
 use Rattle.ny_check.specs.declared.node.Node.{Node}
 use Rattle.ny_check.specs.declared.node.Node.TheVariants as node
 use Rattle.ny_check.specs.declared.node.ExprId.{ExprId}
@@ -14,13 +13,17 @@ use Rattle.ny_check.specs.Values.{Scalars, scalar_node, scalar_of, of_numbers, o
 use Rattle.ny_check.specs.Meaning.{Bound, Means, meaning, sound_node}
 use Rattle.ny_check.specs.Channels.{Plays, plays_node, played}
 use Rattle.ny_check.proofs.Smaller.{below-at, by_smaller-is}
-use Rattle.ny_num.specs.Numbers.{fix_add, fix_sub, fix_mul, fix_div, fix_neg}
-use Rattle.std.specs.Int.{int_min, int_max}
+use Rattle.ny_num.specs.Numbers.{fix_div, fix_neg}
+use Rattle.ny_kernels.specs.declared.operation.Op.{Op}
+use Rattle.ny_check.specs.Families.{fix_operation}
+use Rattle.ny_check.specs.declared.node.Generator.{Generator}
+use Rattle.ny_check.specs.declared.node.Effect.{Effect}
+use Rattle.ny_check.specs.declared.node.Change.{Change}
+use Rattle.ny_check.specs.declared.node.Change.TheVariants as change
 use Rattle.std.specs.Prelude.{not}
-use Rattle.ny_num.specs.declared.rate.Rate.{Rate}
 use Rattle.ny_num.specs.Sound as sounds
 use Rattle.ny_num.specs.Sound.{silence}
-use Rattle.ny_eval.specs.Built.{alike, joined, negated, values_of, all_values, tests_of, sound_of, built_node, built, is_sound, is_built}
+use Rattle.ny_eval.specs.Built.{alike, joined, negated, values_of, all_values, change_of, tests_of, sound_of, built_node, built, is_sound, is_built}
 use Rattle.ny_eval.specs.Inner.{IsOuter}
 use Rattle.ny_eval.specs.declared.built.Built.{Built}
 use Rattle.ny_eval.specs.declared.built.Built.TheVariants.{Value, Test, Sound, Unbuilt}
@@ -102,6 +105,11 @@ of_values Unbuilt made e = unbuilt e
 of_all_values : (es : List ExprId) (known : ℕ → Built) (made : Built) → all_values es known made ≡ Sound → made ≡ Sound
 of_all_values [] known made e = e
 of_all_values (x ∷ es) known made e = of_all_values es known made (of_values (known x.0) (all_values es known made) e)
+
+of_change : (c : Change) (known : ℕ → Built) (made : Built) → change_of c known made ≡ Sound → made ≡ Sound
+of_change (change.By t k) known made e = of_values (known k.0) made e
+of_change (change.Warp m) known made e = e
+of_change (change.Rate rated r) known made e = e
 
 of_tests_of : (a made : Built) → tests_of a made ≡ Sound → made ≡ Sound
 of_tests_of Test made e = e
@@ -186,6 +194,11 @@ all_values_sound : (es : List ExprId) (known : ℕ → Built) (made : Built) →
 all_values_sound [] known made p = p
 all_values_sound (e ∷ es) known made p = values_sound (known e.0) (all_values es known made) (all_values_sound es known made p)
 
+change_sound : (c : Change) (known : ℕ → Built) (made : Built) → Agrees made scalar.Sound → Agrees (change_of c known made) scalar.Sound
+change_sound (change.By t k) known made p = values_sound (known k.0) made p
+change_sound (change.Warp m) known made p = p
+change_sound (change.Rate rated r) known made p = p
+
 part_sound : (a : Built) → Agrees (sound_of a) scalar.Sound
 part_sound Value = tt
 part_sound Test = tt
@@ -198,11 +211,7 @@ node_agrees code f known all (node.Local x) names = tt
 node_agrees code f known all (node.Global g) names = values_agree (known g.0) Value (f g.0 []) (f g.0 []) (all g.0 []) (λ v is. (v, is))
 node_agrees code f known all (node.Call g es) names = tt
 node_agrees code f known all (node.Block bs v) names = tt
-node_agrees code f known all (node.Add a b) names = joined_agree fix_add (known a.0) (known b.0) (f a.0 names) (f b.0 names) (all a.0 names) (all b.0 names)
-node_agrees code f known all (node.Sub a b) names = joined_agree fix_sub (known a.0) (known b.0) (f a.0 names) (f b.0 names) (all a.0 names) (all b.0 names)
-node_agrees code f known all (node.Mul a b) names = joined_agree fix_mul (known a.0) (known b.0) (f a.0 names) (f b.0 names) (all a.0 names) (all b.0 names)
-node_agrees code f known all (node.Max a b) names = joined_agree int_max (known a.0) (known b.0) (f a.0 names) (f b.0 names) (all a.0 names) (all b.0 names)
-node_agrees code f known all (node.Min a b) names = joined_agree int_min (known a.0) (known b.0) (f a.0 names) (f b.0 names) (all a.0 names) (all b.0 names)
+node_agrees code f known all (node.Pair op a b) names = joined_agree (fix_operation op) (known a.0) (known b.0) (f a.0 names) (f b.0 names) (all a.0 names) (all b.0 names)
 node_agrees code f known all (node.Div a v) names =
     values_agree (known a.0) Value (f a.0 names) (of_number (λ x. fix_div x v) (f a.0 names)) (all a.0 names) (λ w is. (fix_div w v, ap (of_number (λ x. fix_div x v)) is))
 node_agrees code f known all (node.Neg a) names = negated_agrees (known a.0) (f a.0 names) (all a.0 names)
@@ -219,26 +228,9 @@ node_agrees code f known all (node.Not a) names = tests_agree (known a.0) Test (
 node_agrees code f known all (node.If c a b) names =
     tests_agree (known c.0) (alike (known a.0) (known b.0)) (f c.0 names) (if is_true (f c.0 names) then f a.0 names else f b.0 names) (all c.0 names)
     (λ v is. alike_agree (is_true (f c.0 names)) (known a.0) (known b.0) (f a.0 names) (f b.0 names) (all a.0 names) (all b.0 names))
-node_agrees code f known all (node.Const v d) names = values_sound (known v.0) (values_of (known d.0) Sound) (values_sound (known d.0) Sound refl)
-node_agrees code f known all (node.Osc v d) names = values_sound (known v.0) (values_of (known d.0) Sound) (values_sound (known d.0) Sound refl)
-node_agrees code f known all (node.HzOsc v d) names = values_sound (known v.0) (values_of (known d.0) Sound) (values_sound (known d.0) Sound refl)
-node_agrees code f known all (node.Lfo v d) names = values_sound (known v.0) (values_of (known d.0) Sound) (values_sound (known d.0) Sound refl)
-node_agrees code f known all (node.Noise v d) names = values_sound (known v.0) (values_of (known d.0) Sound) (values_sound (known d.0) Sound refl)
-node_agrees code f known all (node.Rest d) names = values_sound (known d.0) Sound refl
-node_agrees code f known all (node.Ramp d) names = values_sound (known d.0) Sound refl
-node_agrees code f known all (node.Pwl es) names = all_values_sound es known Sound refl
-node_agrees code f known all (node.Abs e) names = part_sound (known e.0)
-node_agrees code f known all (node.OnePole e a) names = values_sound (known a.0) (sound_of (known e.0)) (part_sound (known e.0))
-node_agrees code f known all (node.Biquad e cs) names = all_values_sound cs known (sound_of (known e.0)) (part_sound (known e.0))
-node_agrees code f known all (node.Comb e d gain) names = values_sound (known d.0) (values_of (known gain.0) (sound_of (known e.0))) (values_sound (known gain.0) (sound_of (known e.0)) (part_sound (known e.0)))
-node_agrees code f known all (node.At k e) names = values_sound (known k.0) (sound_of (known e.0)) (part_sound (known e.0))
-node_agrees code f known all (node.Stretch k e) names = values_sound (known k.0) (sound_of (known e.0)) (part_sound (known e.0))
-node_agrees code f known all (node.Loud k e) names = values_sound (known k.0) (sound_of (known e.0)) (part_sound (known e.0))
-node_agrees code f known all (node.Sustain k e) names = values_sound (known k.0) (sound_of (known e.0)) (part_sound (known e.0))
-node_agrees code f known all (node.Transpose k e) names = values_sound (known k.0) (sound_of (known e.0)) (part_sound (known e.0))
-node_agrees code f known all (node.Warp m e) names = part_sound (known e.0)
-node_agrees code f known all (node.SoundRate r e) names = part_sound (known e.0)
-node_agrees code f known all (node.ControlRate r e) names = part_sound (known e.0)
+node_agrees code f known all (node.Leaf w es) names = all_values_sound es known Sound refl
+node_agrees code f known all (node.Effect w e es) names = all_values_sound es known (sound_of (known e.0)) (part_sound (known e.0))
+node_agrees code f known all (node.Change c e) names = change_sound c known (sound_of (known e.0)) (part_sound (known e.0))
 node_agrees code f known all _ names = tt
 
 -- what is guarded on both sides
@@ -324,94 +316,37 @@ choice_parts code e c a b here found is sound =
     let both = alike_sound (below e Unbuilt (built code) a.0) (below e Unbuilt (built code) b.0) values in
     (below_sound e a.0 (built code) both.0, below_sound e b.0 (built code) both.1)
 
--- what stands in a changed environment
-changed_part : (code : Code) (e : ℕ) (k : Built) (part : ExprId) → values_of k (sound_of (below e Unbuilt (built code) part.0)) ≡ Sound → (part.0 < e) × (built code part.0 ≡ Sound)
-changed_part code e k part sound =
-    below_sound e part.0 (built code) (of_sound (below e Unbuilt (built code) part.0) (of_values k (sound_of (below e Unbuilt (built code) part.0)) sound))
-
 kept_part : (code : Code) (e : ℕ) (part : ExprId) → sound_of (below e Unbuilt (built code) part.0) ≡ Sound → (part.0 < e) × (built code part.0 ≡ Sound)
 kept_part code e part sound = below_sound e part.0 (built code) (of_sound (below e Unbuilt (built code) part.0) sound)
 
-pub at_part : (code : Code) (e : ℕ) (k part : ExprId) (here : Node) → here ≡ node_at code e → here ≡ node.At k part → built code e ≡ Sound → (part.0 < e) × (built code part.0 ≡ Sound)
-at_part code e k part here found is sound = changed_part code e (below e Unbuilt (built code) k.0) part (built_at code e (node.At k part) here found is sound)
+-- what stands in a changed environment
+pub change_part : (code : Code) (e : ℕ) (c : Change) (part : ExprId) (here : Node) → here ≡ node_at code e → here ≡ node.Change c part → built code e ≡ Sound → (part.0 < e) × (built code part.0 ≡ Sound)
+change_part code e c part here found is sound =
+    kept_part code e part (of_change c (below e Unbuilt (built code)) (sound_of (below e Unbuilt (built code) part.0)) (built_at code e (node.Change c part) here found is sound))
 
-pub stretch_part : (code : Code) (e : ℕ) (k part : ExprId) (here : Node) → here ≡ node_at code e → here ≡ node.Stretch k part → built code e ≡ Sound → (part.0 < e) × (built code part.0 ≡ Sound)
-stretch_part code e k part here found is sound = changed_part code e (below e Unbuilt (built code) k.0) part (built_at code e (node.Stretch k part) here found is sound)
-
-pub loud_part : (code : Code) (e : ℕ) (k part : ExprId) (here : Node) → here ≡ node_at code e → here ≡ node.Loud k part → built code e ≡ Sound → (part.0 < e) × (built code part.0 ≡ Sound)
-loud_part code e k part here found is sound = changed_part code e (below e Unbuilt (built code) k.0) part (built_at code e (node.Loud k part) here found is sound)
-
-pub sustain_part : (code : Code) (e : ℕ) (k part : ExprId) (here : Node) → here ≡ node_at code e → here ≡ node.Sustain k part → built code e ≡ Sound → (part.0 < e) × (built code part.0 ≡ Sound)
-sustain_part code e k part here found is sound = changed_part code e (below e Unbuilt (built code) k.0) part (built_at code e (node.Sustain k part) here found is sound)
-
-pub transpose_part : (code : Code) (e : ℕ) (k part : ExprId) (here : Node) → here ≡ node_at code e → here ≡ node.Transpose k part → built code e ≡ Sound → (part.0 < e) × (built code part.0 ≡ Sound)
-transpose_part code e k part here found is sound = changed_part code e (below e Unbuilt (built code) k.0) part (built_at code e (node.Transpose k part) here found is sound)
-
-pub warp_part : (code : Code) (e : ℕ) (m : List Point) (part : ExprId) (here : Node) → here ≡ node_at code e → here ≡ node.Warp m part → built code e ≡ Sound → (part.0 < e) × (built code part.0 ≡ Sound)
-warp_part code e m part here found is sound = kept_part code e part (built_at code e (node.Warp m part) here found is sound)
-
-pub sound_rate_part : (code : Code) (e : ℕ) (r : Rate) (part : ExprId) (here : Node) → here ≡ node_at code e → here ≡ node.SoundRate r part → built code e ≡ Sound → (part.0 < e) × (built code part.0 ≡ Sound)
-sound_rate_part code e r part here found is sound = kept_part code e part (built_at code e (node.SoundRate r part) here found is sound)
-
-pub rate_part : (code : Code) (e : ℕ) (r : Rate) (part : ExprId) (here : Node) → here ≡ node_at code e → here ≡ node.ControlRate r part → built code e ≡ Sound → (part.0 < e) × (built code part.0 ≡ Sound)
-rate_part code e r part here found is sound = kept_part code e part (built_at code e (node.ControlRate r part) here found is sound)
-
--- ---- what a filter hears
-
-pub abs_part : (code : Code) (e : ℕ) (part : ExprId) (here : Node) → here ≡ node_at code e → here ≡ node.Abs part → built code e ≡ Sound → (part.0 < e) × (built code part.0 ≡ Sound)
-abs_part code e part here found is sound = kept_part code e part (built_at code e (node.Abs part) here found is sound)
-
-pub one_pole_part : (code : Code) (e : ℕ) (part a : ExprId) (here : Node) → here ≡ node_at code e → here ≡ node.OnePole part a → built code e ≡ Sound → (part.0 < e) × (built code part.0 ≡ Sound)
-one_pole_part code e part a here found is sound = changed_part code e (below e Unbuilt (built code) a.0) part (built_at code e (node.OnePole part a) here found is sound)
-
-pub biquad_part : (code : Code) (e : ℕ) (part : ExprId) (cs : List ExprId) (here : Node) → here ≡ node_at code e → here ≡ node.Biquad part cs → built code e ≡ Sound → (part.0 < e) × (built code part.0 ≡ Sound)
-biquad_part code e part cs here found is sound =
-    kept_part code e part (of_all_values cs (below e Unbuilt (built code)) (sound_of (below e Unbuilt (built code) part.0)) (built_at code e (node.Biquad part cs) here found is sound))
-
-pub comb_part : (code : Code) (e : ℕ) (part d gain : ExprId) (here : Node) → here ≡ node_at code e → here ≡ node.Comb part d gain → built code e ≡ Sound → (part.0 < e) × (built code part.0 ≡ Sound)
-comb_part code e part d gain here found is sound =
-    let known = below e Unbuilt (built code) in
-    changed_part code e (known gain.0) part (of_values (known d.0) (values_of (known gain.0) (sound_of (known part.0))) (built_at code e (node.Comb part d gain) here found is sound))
+-- what an effect hears
+pub effect_part : (code : Code) (e : ℕ) (w : Effect) (part : ExprId) (es : List ExprId) (here : Node) → here ≡ node_at code e → here ≡ node.Effect w part es → built code e ≡ Sound → (part.0 < e) × (built code part.0 ≡ Sound)
+effect_part code e w part es here found is sound =
+    kept_part code e part (of_all_values es (below e Unbuilt (built code)) (sound_of (below e Unbuilt (built code) part.0)) (built_at code e (node.Effect w part es) here found is sound))
 
 -- ---- what is left
 
--- an expression that can be played, and is no operation, no leaf and no filter, is another one
-module _ (here : Node) (not_add : (a b : ExprId) → here ≡ node.Add a b → ⊥) (not_sub : (a b : ExprId) → here ≡ node.Sub a b → ⊥) (not_mul : (a b : ExprId) → here ≡ node.Mul a b → ⊥) (not_max : (a b : ExprId) → here ≡ node.Max a b → ⊥) (not_min : (a b : ExprId) → here ≡ node.Min a b → ⊥) (not_neg : (a : ExprId) → here ≡ node.Neg a → ⊥) (not_const : (v d : ExprId) → here ≡ node.Const v d → ⊥) (not_osc : (k d : ExprId) → here ≡ node.Osc k d → ⊥) (not_hzosc : (k d : ExprId) → here ≡ node.HzOsc k d → ⊥) (not_lfo : (k d : ExprId) → here ≡ node.Lfo k d → ⊥) (not_noise : (v d : ExprId) → here ≡ node.Noise v d → ⊥) (not_rest : (d : ExprId) → here ≡ node.Rest d → ⊥) (not_ramp : (d : ExprId) → here ≡ node.Ramp d → ⊥) (not_pwl : (es : List ExprId) → here ≡ node.Pwl es → ⊥) (not_abs : (part : ExprId) → here ≡ node.Abs part → ⊥) (not_one_pole : (part a : ExprId) → here ≡ node.OnePole part a → ⊥) (not_biquad : (part : ExprId) (cs : List ExprId) → here ≡ node.Biquad part cs → ⊥) (not_comb : (part d gain : ExprId) → here ≡ node.Comb part d gain → ⊥) where
+-- an expression that can be played, and is no operation, no leaf and no effect, is another one
+module _ (here : Node) (not_pair : (op : Op) (a b : ExprId) → here ≡ node.Pair op a b → ⊥) (not_neg : (a : ExprId) → here ≡ node.Neg a → ⊥) (not_leaf : (w : Generator) (es : List ExprId) → here ≡ node.Leaf w es → ⊥) (not_effect : (w : Effect) (part : ExprId) (es : List ExprId) → here ≡ node.Effect w part es → ⊥) where
   is_outer : (known : ℕ → Built) (at : Node) → here ≡ at → built_node at known ≡ Sound → IsOuter at
   is_outer known (node.Number v) is e = never e
   is_outer known (node.Global g) is e = never (of_values (known g.0) Value e)
+  is_outer known (node.Pair op a b) is e = absurd (not_pair op a b is)
   is_outer known (node.Div a v) is e = never (of_values (known a.0) Value e)
+  is_outer known (node.Neg a) is e = absurd (not_neg a is)
   is_outer known (node.Compare r a b) is e = no_test (of_values (known b.0) Test (of_values (known a.0) (values_of (known b.0) Test) e))
   is_outer known (node.And a b) is e = no_test (of_tests_of (known b.0) Test (of_tests_of (known a.0) (tests_of (known b.0) Test) e))
   is_outer known (node.Or a b) is e = no_test (of_tests_of (known b.0) Test (of_tests_of (known a.0) (tests_of (known b.0) Test) e))
   is_outer known (node.Not a) is e = no_test (of_tests_of (known a.0) Test e)
   is_outer known (node.If c a b) is e = tt
-  is_outer known (node.Add a b) is e = absurd (not_add a b is)
-  is_outer known (node.Sub a b) is e = absurd (not_sub a b is)
-  is_outer known (node.Mul a b) is e = absurd (not_mul a b is)
-  is_outer known (node.Max a b) is e = absurd (not_max a b is)
-  is_outer known (node.Min a b) is e = absurd (not_min a b is)
-  is_outer known (node.Neg a) is e = absurd (not_neg a is)
-  is_outer known (node.Const v d) is e = absurd (not_const v d is)
-  is_outer known (node.Osc k d) is e = absurd (not_osc k d is)
-  is_outer known (node.HzOsc k d) is e = absurd (not_hzosc k d is)
-  is_outer known (node.Lfo k d) is e = absurd (not_lfo k d is)
-  is_outer known (node.Noise v d) is e = absurd (not_noise v d is)
-  is_outer known (node.Rest d) is e = absurd (not_rest d is)
-  is_outer known (node.Ramp d) is e = absurd (not_ramp d is)
-  is_outer known (node.Pwl es) is e = absurd (not_pwl es is)
-  is_outer known (node.Abs part) is e = absurd (not_abs part is)
-  is_outer known (node.OnePole part a) is e = absurd (not_one_pole part a is)
-  is_outer known (node.Biquad part cs) is e = absurd (not_biquad part cs is)
-  is_outer known (node.Comb part d gain) is e = absurd (not_comb part d gain is)
-  is_outer known (node.At k part) is e = tt
-  is_outer known (node.Stretch k part) is e = tt
-  is_outer known (node.Loud k part) is e = tt
-  is_outer known (node.Sustain k part) is e = tt
-  is_outer known (node.Transpose k part) is e = tt
-  is_outer known (node.Warp m part) is e = tt
-  is_outer known (node.SoundRate r part) is e = tt
-  is_outer known (node.ControlRate r part) is e = tt
+  is_outer known (node.Leaf w es) is e = absurd (not_leaf w es is)
+  is_outer known (node.Effect w part es) is e = absurd (not_effect w part es is)
+  is_outer known (node.Change c part) is e = tt
   is_outer known _ is e = unbuilt e
 
   pub outer_left : (code : Code) (e : ℕ) → here ≡ node_at code e → built code e ≡ Sound → IsOuter (node_at code e)

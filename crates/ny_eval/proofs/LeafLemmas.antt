@@ -4,12 +4,11 @@ use Rattle.std.proofs.lemmas.Int.{ints, int_max_is, int_min_is}
 use Rattle.std.specs.List.{range_with_len}
 use Rattle.std.specs.Int.{int_min, int_max}
 use Rattle.ny_num.specs.Numbers.{sat_sample, sample_limit, sample_mul}
-use Rattle.ny_num.specs.declared.rate.Rate.{Rate}
 use Rattle.ny_num.specs.declared.timing.Timing.{Timing}
 use Rattle.ny_num.specs.Leaves as leaves
-use Rattle.ny_num.specs.Leaves.{louder_value, leaf_timing, wave_value, noise_value, increment, key_hz, key_of, seed_of}
+use Rattle.ny_num.specs.Leaves.{louder_value, wave_value, noise_value, increment, key_hz, key_of, seed_of}
 use Rattle.ny_num.specs.Sound as sounds
-use Rattle.ny_num.specs.Sound.{IsTiming, timing_of, sound_of, spanning}
+use Rattle.ny_num.specs.Sound.{IsTiming, timing_of, sound_of}
 use Rattle.ny_warp.specs.declared.env.Env.{Env}
 use Rattle.ny_check.specs.Behaviours.{sustained_timing, rest_timing, const_sound, osc_sound, hzosc_sound, noise_sound, rest_sound}
 use Rattle.ny_units.specs.declared.leaves.Leaf.{Leaf as LeafOf}
@@ -122,13 +121,3 @@ noise_is env v d number len x loud t at_v at_d when at_x at_loud =
 pub rest_is : (env : Env) (d len : ℤ) (t : Timing) (k : ℤ) → len ≡ d → t ≡ rest_timing env len → k ≡ pos 0 → leaves.leaf t (leaf_value (Const k)) ≡ rest_sound env d
 unfolding rest_sound leaf_value
 rest_is env d len t k at_d when is = same_leaf t (rest_timing env d) (λ n. k) (λ n. pos 0) (when ∙ ap (rest_timing env) at_d) (λ n. is)
-
--- ---- rates
-
-pub sustained_rate : (rate : Rate) (env : Env) (d : ℤ) (t : Timing) → t ≡ sustained_timing rate env d → t.rate ≡ rate
-unfolding sustained_timing leaf_timing spanning
-sustained_rate rate env d t is = ap (λ (u : Timing). u.rate) is
-
-pub rest_rate : (env : Env) (d : ℤ) (t : Timing) → t ≡ rest_timing env d → t.rate ≡ env.sound_rate
-unfolding rest_timing leaf_timing spanning
-rest_rate env d t is = ap (λ (u : Timing). u.rate) is

@@ -21,6 +21,7 @@ pub mod KindLemmas
 pub mod OperandLemmas
 pub mod InnerLemmas
 pub mod LeafLemmas
+pub mod GeneratorLemmas
 pub mod ControlLemmas
 pub mod EnvelopeLemmas
 pub mod ShapeLemmas

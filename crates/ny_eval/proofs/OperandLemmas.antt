@@ -36,19 +36,11 @@ number_second op k m = each_is (λ x. operation op x k) m
 
 paired_first : (op : Op) (rate : Rate) (v : ℤ) (m : sounds.Sound) → paired op rate (Number v) (Sound m) ≡ each_value (operation op (sat_sample v)) (resampled rate m)
 unfolding each_value
-paired_first Add rate v m = refl
-paired_first Sub rate v m = refl
-paired_first Mul rate v m = refl
-paired_first Max rate v m = refl
-paired_first Min rate v m = refl
+paired_first op rate v m = refl
 
 paired_second : (op : Op) (rate : Rate) (v : ℤ) (m : sounds.Sound) → paired op rate (Sound m) (Number v) ≡ each_value (λ x. operation op x (sat_sample v)) (resampled rate m)
 unfolding each_value
-paired_second Add rate v m = refl
-paired_second Sub rate v m = refl
-paired_second Mul rate v m = refl
-paired_second Max rate v m = refl
-paired_second Min rate v m = refl
+paired_second op rate v m = refl
 
 paired_both : (op : Op) (rate : Rate) (m n : sounds.Sound) → paired op rate (Sound m) (Sound n) ≡ combined (both_timing op) (operation op) (resampled rate m) (resampled rate n)
 unfolding combined

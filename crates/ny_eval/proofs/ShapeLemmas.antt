@@ -20,14 +20,15 @@ use Rattle.ny_heap.specs.Reach.{HeapLaws}
 use Rattle.ny_heap.specs.declared.make.Make.{Make}
 use Rattle.ny_heap.specs.declared.sound.Sound.{Sound}
 use Rattle.ny_eval.specs.Made.{made_with, IsSingle}
-use Rattle.ny_eval.specs.Shapes.{shaped, make_of}
+use Rattle.ny_check.specs.declared.node.Effect.{Effect}
+use Rattle.ny_check.specs.declared.node.Effect.TheVariants as effect
+use Rattle.ny_check.specs.Families.{number_at, effect_sound}
+use Rattle.ny_eval.specs.Shapes.{make_of}
 use Rattle.ny_eval.specs.Turns.{Turns, Replaces}
 use Rattle.ny_eval.proofs.BringLemmas.{timing_rate}
 use Rattle.ny_eval.proofs.HandLemmas.{turn_replaced}
 use Rattle.ny_eval.proofs.TurnLemmas.{turns_as}
 use Rattle.ny_eval.proofs.UnitLemmas.{each_is}
-use Rattle.ny_eval.specs.declared.filter.Shape.{Shape}
-use Rattle.ny_eval.specs.declared.filter.Shape.TheVariants as shape
 use Rattle.ny_eval.proofs.LeafLemmas.{leaf_is}
 
 -- the sound of this timing with these samples
@@ -67,26 +68,26 @@ delay_within : (rate : Rate) (delay gain : ℤ) → IsFilter (filter.Comb (comb_
 unfolding comb_delay
 delay_within rate delay gain = (omega arith, omega arith)
 
--- what a shape makes of a sound, as the unit that computes it
-pub shape_is : (s : Shape) (m : sounds.Sound) → made_with (make_of s m.rate) m ≡ shaped s m
+-- what an effect makes of a sound, as the unit that computes it
+pub effect_is : (w : Effect) (ns : List ℤ) (m : sounds.Sound) → made_with (make_of w ns m.rate) m ≡ effect_sound w ns m
 unfolding timing_of
-shape_is shape.Abs m = abs_made m
-shape_is (shape.OnePole a) m = one_pole_made a m
-shape_is (shape.Biquad b0 b1 b2 a1 a2) m = biquad_made b0 b1 b2 a1 a2 m
-shape_is (shape.Comb delay gain) m = comb_made (comb_delay m.rate delay) gain m
+effect_is effect.Abs ns m = abs_made m
+effect_is effect.OnePole ns m = one_pole_made (number_at ns 0) m
+effect_is effect.Biquad ns m = biquad_made (number_at ns 0) (number_at ns 1) (number_at ns 2) (number_at ns 3) (number_at ns 4) m
+effect_is effect.Comb ns m = comb_made (comb_delay m.rate (number_at ns 0)) (number_at ns 1) m
 
-pub shape_single : (s : Shape) (rate : Rate) (unit : Make) → unit ≡ make_of s rate → IsSingle unit
-shape_single s rate unit is = subst IsSingle (sym is) (by_shape s)
+pub effect_single : (w : Effect) (ns : List ℤ) (rate : Rate) (unit : Make) → unit ≡ make_of w ns rate → IsSingle unit
+effect_single w ns rate unit is = subst IsSingle (sym is) (by_effect w)
   where
-    by_shape : (k : Shape) → IsSingle (make_of k rate)
-    by_shape shape.Abs = tt
-    by_shape (shape.OnePole a) = tt
-    by_shape (shape.Biquad b0 b1 b2 a1 a2) = tt
-    by_shape (shape.Comb delay gain) = delay_within rate delay gain
+    by_effect : (v : Effect) → IsSingle (make_of v ns rate)
+    by_effect effect.Abs = tt
+    by_effect effect.OnePole = tt
+    by_effect effect.Biquad = tt
+    by_effect effect.Comb = delay_within rate (number_at ns 0) (number_at ns 1)
 
 -- a sound that just came, and what is made of it
-pub shaped_turns : {B : Type 0} (old mid new : HeapState B) (a s : Sound) (height top : ℕ) (m : sounds.Sound) (made other : Shape) (unit : Make) → height + 1 ≤ top → HeapLaws old → Turns old mid a height m → unit ≡ make_of made a.timing.rate → made ≡ other → Replaces mid new a s 1 (made_with unit) → Turns old new s top (shaped other m)
-shaped_turns old mid new a s height top m made other unit le laws turn is same replaces =
-    turns_as old new s top top (made_with unit m) (shaped other m) (omega arith)
-    (ap (λ k. made_with k m) (is ∙ ap (make_of made) (timing_rate a.timing m turn.timing)) ∙ (shape_is made m ∙ ap (λ k. shaped k m) same))
+pub effect_turns : {B : Type 0} (old mid new : HeapState B) (a s : Sound) (height top : ℕ) (m : sounds.Sound) (w : Effect) (ns numbers : List ℤ) (unit : Make) → height + 1 ≤ top → HeapLaws old → Turns old mid a height m → unit ≡ make_of w ns a.timing.rate → ns ≡ numbers → Replaces mid new a s 1 (made_with unit) → Turns old new s top (effect_sound w numbers m)
+effect_turns old mid new a s height top m w ns numbers unit le laws turn is same replaces =
+    turns_as old new s top top (made_with unit m) (effect_sound w numbers m) (omega arith)
+    (ap (λ k. made_with k m) (is ∙ ap (make_of w ns) (timing_rate a.timing m turn.timing)) ∙ (effect_is w ns m ∙ ap (λ k. effect_sound w k m) same))
     (turn_replaced old mid new a s height 1 top m (made_with unit) le laws turn replaces)

@@ -3,6 +3,8 @@
 use Rattle.std.specs.Prelude.{ℕ, Bool, true, false, List, [], ◌∷◌}
 use Rattle.ny_check.specs.declared.node.Node.{Node}
 use Rattle.ny_check.specs.declared.node.Node.TheVariants as node
+use Rattle.ny_check.specs.declared.node.Change.{Change}
+use Rattle.ny_check.specs.declared.node.Change.TheVariants as change
 use Rattle.ny_check.specs.declared.node.ExprId.{ExprId}
 use Rattle.ny_check.specs.Code.{Code, node_at}
 use Rattle.ny_check.specs.Recursion.{by_smaller}
@@ -50,29 +52,17 @@ abbrev pub sound_of : Built → Built
 sound_of Sound = Sound
 sound_of _ = Unbuilt
 
--- What makes a sound, of what the nodes before it are: a leaf of numbers, a sound without signs or filtered, or one in a changed
--- environment.
+-- this, where the number of a change is one
+abbrev pub change_of : Change → (ℕ → Built) → Built → Built
+change_of (change.By t k) rec made = values_of (rec k.0) made
+change_of (change.Warp m) rec made = made
+change_of (change.Rate rated r) rec made = made
+
+-- What makes a sound, of what the nodes before it are: a leaf, an effect, or a sound in a changed environment.
 abbrev pub built_sound : Node → (ℕ → Built) → Built
-built_sound (node.Const v d) rec = values_of (rec v.0) (values_of (rec d.0) Sound)
-built_sound (node.Osc key d) rec = values_of (rec key.0) (values_of (rec d.0) Sound)
-built_sound (node.HzOsc hz d) rec = values_of (rec hz.0) (values_of (rec d.0) Sound)
-built_sound (node.Lfo hz d) rec = values_of (rec hz.0) (values_of (rec d.0) Sound)
-built_sound (node.Noise v d) rec = values_of (rec v.0) (values_of (rec d.0) Sound)
-built_sound (node.Rest d) rec = values_of (rec d.0) Sound
-built_sound (node.Ramp d) rec = values_of (rec d.0) Sound
-built_sound (node.Pwl es) rec = all_values es rec Sound
-built_sound (node.Abs e) rec = sound_of (rec e.0)
-built_sound (node.OnePole e a) rec = values_of (rec a.0) (sound_of (rec e.0))
-built_sound (node.Biquad e cs) rec = all_values cs rec (sound_of (rec e.0))
-built_sound (node.Comb e d gain) rec = values_of (rec d.0) (values_of (rec gain.0) (sound_of (rec e.0)))
-built_sound (node.At t e) rec = values_of (rec t.0) (sound_of (rec e.0))
-built_sound (node.Stretch k e) rec = values_of (rec k.0) (sound_of (rec e.0))
-built_sound (node.Loud k e) rec = values_of (rec k.0) (sound_of (rec e.0))
-built_sound (node.Sustain k e) rec = values_of (rec k.0) (sound_of (rec e.0))
-built_sound (node.Transpose k e) rec = values_of (rec k.0) (sound_of (rec e.0))
-built_sound (node.Warp m e) rec = sound_of (rec e.0)
-built_sound (node.SoundRate r e) rec = sound_of (rec e.0)
-built_sound (node.ControlRate r e) rec = sound_of (rec e.0)
+built_sound (node.Leaf w es) rec = all_values es rec Sound
+built_sound (node.Effect w e es) rec = all_values es rec (sound_of (rec e.0))
+built_sound (node.Change c e) rec = change_of c rec (sound_of (rec e.0))
 built_sound _ rec = Unbuilt
 
 -- What a node is, of what the nodes before it are: a number, a test, an operation on two operands, one of them with the other sign,
@@ -80,11 +70,7 @@ built_sound _ rec = Unbuilt
 abbrev pub built_node : Node → (ℕ → Built) → Built
 built_node (node.Number v) rec = Value
 built_node (node.Global e) rec = values_of (rec e.0) Value
-built_node (node.Add a b) rec = joined (rec a.0) (rec b.0)
-built_node (node.Sub a b) rec = joined (rec a.0) (rec b.0)
-built_node (node.Mul a b) rec = joined (rec a.0) (rec b.0)
-built_node (node.Max a b) rec = joined (rec a.0) (rec b.0)
-built_node (node.Min a b) rec = joined (rec a.0) (rec b.0)
+built_node (node.Pair op a b) rec = joined (rec a.0) (rec b.0)
 built_node (node.Div a v) rec = values_of (rec a.0) Value
 built_node (node.Neg a) rec = negated (rec a.0)
 built_node (node.Compare r a b) rec = values_of (rec a.0) (values_of (rec b.0) Test)

@@ -11,14 +11,7 @@ use Rattle.ny_eval.specs.declared.built.Built.TheVariants.{Sound}
 -- `#if`, and what changes the environment
 abbrev pub IsOuter : Node → Type 0
 IsOuter (node.If c a b) = Unit {0}
-IsOuter (node.At k e) = Unit {0}
-IsOuter (node.Stretch k e) = Unit {0}
-IsOuter (node.Loud k e) = Unit {0}
-IsOuter (node.Sustain k e) = Unit {0}
-IsOuter (node.Transpose k e) = Unit {0}
-IsOuter (node.Warp m e) = Unit {0}
-IsOuter (node.SoundRate r e) = Unit {0}
-IsOuter (node.ControlRate r e) = Unit {0}
+IsOuter (node.Change c e) = Unit {0}
 IsOuter _ = ⊥
 
 -- an expression that means what a smaller one does, which can be played, in another environment

@@ -2,10 +2,10 @@ ghost use Rattle.std.specs.Prelude.{◌≡◌, ◌+◌, ◌<◌, length, map, sl
 ghost use Rattle.std.specs.List.{range_with_len};
 ghost use Rattle.ny_check.specs.declared.node.Node.{Node as NodeOf};
 ghost use Rattle.ny_check.specs.Recursion.{below};
-ghost use Rattle.ny_eval.specs.Built.{alike, joined, negated, sound_of, values_of, all_values, tests_of, built_sound, built_node, built, is_sound, is_built};
+ghost use Rattle.ny_eval.specs.Built.{alike, joined, negated, sound_of, values_of, all_values, tests_of, change_of, built_sound, built_node, built, is_sound, is_built};
 ghost use Rattle.ny_eval.specs.declared.built.Built.TheVariants.{Unbuilt};
 
-use ny_check::{ExprId, Node, Program};
+use ny_check::{Change, ExprId, Node, Program};
 use std::alloc::{AllocError, Global};
 
 /// What an expression is, as far as it can be played yet.
@@ -113,35 +113,24 @@ fn all_values(es: &[ExprId], known: &[Built], made: Built) -> Built
     found
 }
 
+// What is made in a changed environment.
+fn change_of(change: &Change, known: &[Built], made: Built) -> Built
+    ensures { result ≡ change_of change.now (λ n. slice_index_or known.now n Unbuilt) made }
+{
+    match change {
+        Change::By(_, k) => values_of(known_of(known, *k), made),
+        Change::Warp(_) | Change::Rate(_, _) => made,
+    }
+}
+
 // What a node that makes a sound is, of what the nodes before it are.
 fn built_sound(node: &Node, known: &[Built]) -> Built
     ensures { result ≡ built_sound node.now (λ n. slice_index_or known.now n Unbuilt) }
 {
     match node {
-        Node::Const(a, d)
-        | Node::Osc(a, d)
-        | Node::HzOsc(a, d)
-        | Node::Lfo(a, d)
-        | Node::Noise(a, d) => values_of(
-            known_of(known, *a),
-            values_of(known_of(known, *d), Built::Sound),
-        ),
-        Node::Rest(d) | Node::Ramp(d) => values_of(known_of(known, *d), Built::Sound),
-        Node::Pwl(es) => all_values(es.as_slice(), known, Built::Sound),
-        Node::Abs(e) | Node::Warp(_, e) | Node::SoundRate(_, e) | Node::ControlRate(_, e) => {
-            sound_of(known_of(known, *e))
-        }
-        Node::Biquad(e, numbers) => all_values(&numbers[..], known, sound_of(known_of(known, *e))),
-        Node::Comb(e, delay, gain) => values_of(
-            known_of(known, *delay),
-            values_of(known_of(known, *gain), sound_of(known_of(known, *e))),
-        ),
-        Node::OnePole(e, k)
-        | Node::At(k, e)
-        | Node::Stretch(k, e)
-        | Node::Loud(k, e)
-        | Node::Sustain(k, e)
-        | Node::Transpose(k, e) => values_of(known_of(known, *k), sound_of(known_of(known, *e))),
+        Node::Leaf(_, es) => all_values(es.as_slice(), known, Built::Sound),
+        Node::Effect(_, e, es) => all_values(es.as_slice(), known, sound_of(known_of(known, *e))),
+        Node::Change(change, e) => change_of(change, known, sound_of(known_of(known, *e))),
         _ => Built::Unbuilt,
     }
 }
@@ -155,9 +144,7 @@ fn built_node(node: &Node, known: &[Built]) -> Built
         Node::Global(e) | Node::Div(e, _) => values_of(known_of(known, *e), Built::Value),
         Node::Neg(e) => negated(known_of(known, *e)),
         Node::Not(e) => tests_of(known_of(known, *e), Built::Test),
-        Node::Add(a, b) | Node::Sub(a, b) | Node::Mul(a, b) | Node::Max(a, b) | Node::Min(a, b) => {
-            joined(known_of(known, *a), known_of(known, *b))
-        }
+        Node::Pair(_, a, b) => joined(known_of(known, *a), known_of(known, *b)),
         Node::Compare(_, a, b) => values_of(
             known_of(known, *a),
             values_of(known_of(known, *b), Built::Test),

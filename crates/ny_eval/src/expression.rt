@@ -1,24 +1,24 @@
-ghost use Rattle.std.specs.Prelude.{◌≡◌, ℕ, ◌+◌, ◌*◌, ◌<◌, max, length, [], IfOk, OnErr};
+ghost use Rattle.std.specs.Prelude.{◌≡◌, ℕ, ◌+◌, ◌*◌, ◌<◌, max, length, map, [], IfOk, OnErr};
 ghost use Rattle.ny_num.specs.Pointwise.{combined};
 ghost use Rattle.ny_num.specs.Resampling.{resampled};
 ghost use Rattle.ny_kernels.specs.Operations.{operation};
-ghost use Rattle.ny_check.specs.Code.{node_at};
+ghost use Rattle.ny_check.specs.Code.{AllBelow};
+ghost use Rattle.ny_check.specs.Families.{effect_sound};
+ghost use Rattle.ny_check.specs.Values.{number_of};
 ghost use Rattle.ny_check.specs.Meaning.{meaning};
 ghost use Rattle.ny_heap.specs.Steps.{both_timing};
 ghost use Rattle.ny_eval.specs.Built.{built, joined};
 ghost use Rattle.ny_eval.specs.declared.built.Built.TheVariants.{Sound as SoundKind};
 ghost use Rattle.ny_eval.specs.Made.{made_with, IsSingle};
 ghost use Rattle.ny_eval.specs.Pairs.{operand, paired};
-ghost use Rattle.ny_eval.specs.Shapes.{shape_of, shaped};
 ghost use Rattle.ny_eval.specs.Turns.{Turns, IsAsBefore};
 
-use crate::control::{envelope, lfo, ramp};
-use crate::filter::{make_of, shape_of};
+use crate::filter::make_of;
 use crate::inner::inner;
-use crate::leaf::{constant, hz_oscillator, lawful, noise, oscillator, rest};
+use crate::leaf::{lawful, make_leaf};
 use crate::unit::{brought_single, single, together};
-use crate::values::sample;
-use ny_check::{ExprId, Node, Program};
+use crate::values::{numbers, sample};
+use ny_check::{Effect, ExprId, Node, Program};
 use ny_heap::{Heap, Make, Op, Sound};
 use ny_num::Sample;
 use ny_warp::Env;
@@ -43,27 +43,17 @@ pub fn eval<B>(
     ensures refused { OnErr result (IsAsBefore heap.old heap.new) }
 {
     match p.node(e) {
-        Node::Add(a, b) => Ok(pair(alloc, p, Op::Add, *a, *b, env, heap)?),
-        Node::Sub(a, b) => Ok(pair(alloc, p, Op::Sub, *a, *b, env, heap)?),
-        Node::Mul(a, b) => Ok(pair(alloc, p, Op::Mul, *a, *b, env, heap)?),
-        Node::Max(a, b) => Ok(pair(alloc, p, Op::Max, *a, *b, env, heap)?),
-        Node::Min(a, b) => Ok(pair(alloc, p, Op::Min, *a, *b, env, heap)?),
+        Node::Pair(op, a, b) => Ok(pair(alloc, p, *op, *a, *b, env, heap)?),
         Node::Neg(a) => {
             let make = Make::Pair(Op::Sub, Some(Sample::ZERO), None);
             Ok(at_sound_rate(alloc, p, make, *a, env, heap)?)
         }
-        Node::Const(value, d) => Ok(constant(alloc, p, *value, *d, &env, heap)?),
-        Node::Osc(key, d) => Ok(oscillator(alloc, p, *key, *d, &env, heap)?),
-        Node::HzOsc(hz, d) => Ok(hz_oscillator(alloc, p, *hz, *d, &env, heap)?),
-        Node::Noise(seed, d) => Ok(noise(alloc, p, *seed, *d, &env, heap)?),
-        Node::Rest(d) => Ok(rest(alloc, p, *d, &env, heap)?),
-        Node::Lfo(hz, d) => Ok(lfo(alloc, p, *hz, *d, &env, heap)?),
-        Node::Ramp(d) => Ok(ramp(alloc, p, *d, &env, heap)?),
-        Node::Pwl(parts) => Ok(envelope(alloc, p, e, parts.as_slice(), &env, heap)?),
-        Node::Abs(part) => Ok(filtered(alloc, p, e, *part, env, heap)?),
-        Node::OnePole(part, _) => Ok(filtered(alloc, p, e, *part, env, heap)?),
-        Node::Biquad(part, _) => Ok(filtered(alloc, p, e, *part, env, heap)?),
-        Node::Comb(part, _, _) => Ok(filtered(alloc, p, e, *part, env, heap)?),
+        Node::Leaf(generator, parts) => {
+            Ok(make_leaf(alloc, p, e, *generator, parts.as_slice(), &env, heap)?)
+        }
+        Node::Effect(effect, part, parts) => {
+            Ok(affected(alloc, p, e, *effect, *part, parts.as_slice(), env, heap)?)
+        }
         _ => {
             lawful(heap);
             let mut changed = env;
@@ -171,28 +161,31 @@ fn both<B>(
     }
 }
 
-/// What an expression makes of the sound of its part, in an environment, at that sound's own rate.
+/// An effect on the sound of an expression, in an environment, at that sound's own rate.
 ///
 /// # Errors
 /// `AllocError` where memory is missing. The heap is then as before.
 #[cycle(eval)]
-fn filtered<B>(
+fn affected<B>(
     alloc: Global,
     p: &Program,
     e: ExprId,
+    effect: Effect,
     part: ExprId,
+    parts: &[ExprId],
     env: Env,
     heap: &mut Heap<B>,
 ) -> Result<Sound, AllocError>
     requires inside { e.0 < length p.now.nodes }
     requires part { part.0 < length p.now.nodes }
     requires built { built p.now part.0 ≡ SoundKind }
-    ensures turns { IfOk result (λ s. Turns heap.old heap.new s (2 * part.0 + 2) (shaped (shape_of p.now (node_at p.now e.0)) (meaning p.now part.0 env []))) }
+    requires below { AllBelow e.0 parts.now }
+    ensures turns { IfOk result (λ s. Turns heap.old heap.new s (2 * part.0 + 2) (effect_sound effect (map (λ e. number_of p.now e []) parts.now) (meaning p.now part.0 env []))) }
     ensures refused { OnErr result (IsAsBefore heap.old heap.new) }
 {
     lawful(heap);
-    let shape = shape_of(alloc, p, e)?;
+    let numbers = numbers(alloc, p, e, parts)?;
     let sound = eval(alloc, p, part, env, heap)?;
-    let make = make_of(shape, sound.timing.rate);
+    let make = make_of(effect, numbers.as_slice(), sound.timing.rate);
     Ok(single(alloc, make, sound, heap)?)
 }

@@ -6,7 +6,7 @@
 
 mod built;
 mod channels;
-mod control;
+mod envelope;
 mod expression;
 mod filter;
 mod inner;

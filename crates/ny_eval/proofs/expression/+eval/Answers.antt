@@ -3,67 +3,26 @@ use Rattle.ny_num.specs.Pointwise.{combined}
 use Rattle.ny_num.specs.Resampling.{resampled}
 use Rattle.ny_kernels.specs.Operations.{operation}
 use Rattle.ny_heap.specs.Steps.{both_timing}
-use Rattle.ny_kernels.specs.declared.operation.Op.TheVariants as op
 use Rattle.ny_check.specs.declared.node.Node.TheVariants as node
 use Rattle.ny_eval.specs.Made.{made_with}
 use Rattle.ny_eval.proofs.AnswerLemmas.{on_err}
-use Rattle.ny_eval.proofs.EvalLemmas.{leaf_arm, envelope_arm, pair_arm, single_arm, shaped_arm, inner_arm, in_copy}
+use Rattle.ny_eval.proofs.EvalLemmas.{leaf_arm, pair_arm, single_arm, effect_arm, inner_arm, in_copy}
 use Rattle.ny_eval.proofs.HandLemmas.{turn_hands, turn_replaced, turn_given_up, turn_released, turns_hands, turns_replaced, turns_given_up, releases}
-use Rattle.ny_eval.proofs.KindLemmas.{pair_parts, neg_part, abs_part, one_pole_part, biquad_part, comb_part, outer_left}
+use Rattle.ny_eval.proofs.KindLemmas.{pair_parts, neg_part, effect_part, outer_left}
 use Rattle.ny_eval.proofs.OperandLemmas.{joins_again, negated_is, second_sound, first_sound, both_sound, pair_first, pair_second, pair_both}
-use Rattle.ny_eval.proofs.ShapeLemmas.{shape_single, shaped_turns}
+use Rattle.ny_eval.proofs.ShapeLemmas.{effect_single, effect_turns}
 use Rattle.ny_eval.proofs.TurnLemmas.{before_none, turns_as}
 use Rattle.ny_eval.proofs.expression.+eval.Goals as goal
 
 pub eval-pair-requires : goal.eval-pair-requires
 eval-pair-requires g t c κs within =
-    let parts = pair_parts c.args.p.now c.args.e.0 c.in-Add.a c.in-Add.b (node.Add c.in-Add.a c.in-Add.b) c.node.result.now refl c.node.ensures.value c.in-Add.is c.requires.built in
+    let parts = pair_parts c.args.p.now c.args.e.0 c.in-Pair.a c.in-Pair.b (node.Pair c.in-Pair.op c.in-Pair.a c.in-Pair.b) c.node.result.now refl c.node.ensures.value c.in-Pair.is c.requires.built in
     (omega (arith, parts.0, parts.1, c.decreases), (search rules, (omega (arith, parts.0, c.requires.inside), (omega (arith, parts.1, c.requires.inside), joins_again _ _ parts.2))))
 
-pub eval-returns-in_ok-pair-in-Add-clause-turns : goal.eval-returns-in_ok-pair-in-Add-clause-turns
-eval-returns-in_ok-pair-in-Add-clause-turns g t c =
-    let parts = pair_parts c.args.p.now c.args.e.0 c.in-Add.a c.in-Add.b (node.Add c.in-Add.a c.in-Add.b) c.node.result.now refl c.node.ensures.value c.in-Add.is c.requires.built in
-    pair_arm c.args.heap.now c.pair.new.heap c.in_ok-pair-in-Add.field-0 c.args.p.now c.args.e.0 c.node.result.now c.args.env c.node.ensures.value c.node.ensures.ordered op.Add (node.Add c.in-Add.a c.in-Add.b) c.in-Add.a c.in-Add.b c.in-Add.is refl parts.0 parts.1 c.in_ok-pair-in-Add.ensures.turns
-
-pub eval-pair-requires-in-Sub : goal.eval-pair-requires-in-Sub
-eval-pair-requires-in-Sub g t c κs within =
-    let parts = pair_parts c.args.p.now c.args.e.0 c.in-Sub.a c.in-Sub.b (node.Sub c.in-Sub.a c.in-Sub.b) c.node.result.now refl c.node.ensures.value c.in-Sub.is c.requires.built in
-    (omega (arith, parts.0, parts.1, c.decreases), (search rules, (omega (arith, parts.0, c.requires.inside), (omega (arith, parts.1, c.requires.inside), joins_again _ _ parts.2))))
-
-pub eval-returns-in_ok-pair-in-Sub-clause-turns : goal.eval-returns-in_ok-pair-in-Sub-clause-turns
-eval-returns-in_ok-pair-in-Sub-clause-turns g t c =
-    let parts = pair_parts c.args.p.now c.args.e.0 c.in-Sub.a c.in-Sub.b (node.Sub c.in-Sub.a c.in-Sub.b) c.node.result.now refl c.node.ensures.value c.in-Sub.is c.requires.built in
-    pair_arm c.args.heap.now c.pair-in-Sub.new.heap c.in_ok-pair-in-Sub.field-0 c.args.p.now c.args.e.0 c.node.result.now c.args.env c.node.ensures.value c.node.ensures.ordered op.Sub (node.Sub c.in-Sub.a c.in-Sub.b) c.in-Sub.a c.in-Sub.b c.in-Sub.is refl parts.0 parts.1 c.in_ok-pair-in-Sub.ensures.turns
-
-pub eval-pair-requires-in-Mul : goal.eval-pair-requires-in-Mul
-eval-pair-requires-in-Mul g t c κs within =
-    let parts = pair_parts c.args.p.now c.args.e.0 c.in-Mul.a c.in-Mul.b (node.Mul c.in-Mul.a c.in-Mul.b) c.node.result.now refl c.node.ensures.value c.in-Mul.is c.requires.built in
-    (omega (arith, parts.0, parts.1, c.decreases), (search rules, (omega (arith, parts.0, c.requires.inside), (omega (arith, parts.1, c.requires.inside), joins_again _ _ parts.2))))
-
-pub eval-returns-in_ok-pair-in-Mul-clause-turns : goal.eval-returns-in_ok-pair-in-Mul-clause-turns
-eval-returns-in_ok-pair-in-Mul-clause-turns g t c =
-    let parts = pair_parts c.args.p.now c.args.e.0 c.in-Mul.a c.in-Mul.b (node.Mul c.in-Mul.a c.in-Mul.b) c.node.result.now refl c.node.ensures.value c.in-Mul.is c.requires.built in
-    pair_arm c.args.heap.now c.pair-in-Mul.new.heap c.in_ok-pair-in-Mul.field-0 c.args.p.now c.args.e.0 c.node.result.now c.args.env c.node.ensures.value c.node.ensures.ordered op.Mul (node.Mul c.in-Mul.a c.in-Mul.b) c.in-Mul.a c.in-Mul.b c.in-Mul.is refl parts.0 parts.1 c.in_ok-pair-in-Mul.ensures.turns
-
-pub eval-pair-requires-in-Max : goal.eval-pair-requires-in-Max
-eval-pair-requires-in-Max g t c κs within =
-    let parts = pair_parts c.args.p.now c.args.e.0 c.in-Max.a c.in-Max.b (node.Max c.in-Max.a c.in-Max.b) c.node.result.now refl c.node.ensures.value c.in-Max.is c.requires.built in
-    (omega (arith, parts.0, parts.1, c.decreases), (search rules, (omega (arith, parts.0, c.requires.inside), (omega (arith, parts.1, c.requires.inside), joins_again _ _ parts.2))))
-
-pub eval-returns-in_ok-pair-in-Max-clause-turns : goal.eval-returns-in_ok-pair-in-Max-clause-turns
-eval-returns-in_ok-pair-in-Max-clause-turns g t c =
-    let parts = pair_parts c.args.p.now c.args.e.0 c.in-Max.a c.in-Max.b (node.Max c.in-Max.a c.in-Max.b) c.node.result.now refl c.node.ensures.value c.in-Max.is c.requires.built in
-    pair_arm c.args.heap.now c.pair-in-Max.new.heap c.in_ok-pair-in-Max.field-0 c.args.p.now c.args.e.0 c.node.result.now c.args.env c.node.ensures.value c.node.ensures.ordered op.Max (node.Max c.in-Max.a c.in-Max.b) c.in-Max.a c.in-Max.b c.in-Max.is refl parts.0 parts.1 c.in_ok-pair-in-Max.ensures.turns
-
-pub eval-pair-requires-in-Min : goal.eval-pair-requires-in-Min
-eval-pair-requires-in-Min g t c κs within =
-    let parts = pair_parts c.args.p.now c.args.e.0 c.in-Min.a c.in-Min.b (node.Min c.in-Min.a c.in-Min.b) c.node.result.now refl c.node.ensures.value c.in-Min.is c.requires.built in
-    (omega (arith, parts.0, parts.1, c.decreases), (search rules, (omega (arith, parts.0, c.requires.inside), (omega (arith, parts.1, c.requires.inside), joins_again _ _ parts.2))))
-
-pub eval-returns-in_ok-pair-in-Min-clause-turns : goal.eval-returns-in_ok-pair-in-Min-clause-turns
-eval-returns-in_ok-pair-in-Min-clause-turns g t c =
-    let parts = pair_parts c.args.p.now c.args.e.0 c.in-Min.a c.in-Min.b (node.Min c.in-Min.a c.in-Min.b) c.node.result.now refl c.node.ensures.value c.in-Min.is c.requires.built in
-    pair_arm c.args.heap.now c.pair-in-Min.new.heap c.in_ok-pair-in-Min.field-0 c.args.p.now c.args.e.0 c.node.result.now c.args.env c.node.ensures.value c.node.ensures.ordered op.Min (node.Min c.in-Min.a c.in-Min.b) c.in-Min.a c.in-Min.b c.in-Min.is refl parts.0 parts.1 c.in_ok-pair-in-Min.ensures.turns
+pub eval-returns-in_ok-pair-in-Pair-clause-turns : goal.eval-returns-in_ok-pair-in-Pair-clause-turns
+eval-returns-in_ok-pair-in-Pair-clause-turns g t c =
+    let parts = pair_parts c.args.p.now c.args.e.0 c.in-Pair.a c.in-Pair.b (node.Pair c.in-Pair.op c.in-Pair.a c.in-Pair.b) c.node.result.now refl c.node.ensures.value c.in-Pair.is c.requires.built in
+    pair_arm c.args.heap.now c.pair.new.heap c.in_ok-pair-in-Pair.field-0 c.args.p.now c.args.e.0 c.node.result.now c.args.env c.node.ensures.value c.node.ensures.ordered c.in-Pair.op c.in-Pair.a c.in-Pair.b c.in-Pair.is parts.0 parts.1 c.in_ok-pair-in-Pair.ensures.turns
 
 pub eval-at_sound_rate-requires : goal.eval-at_sound_rate-requires
 eval-at_sound_rate-requires g t c κs within =
@@ -86,26 +45,6 @@ eval-returns-in_ok-eval-in_default g t c =
       turns = inner_arm c.args.heap.now c.eval.new.heap c.in_ok-eval-in_default.field-0 c.args.p.now c.args.e.0 c.node.result.now c.args.env c.node.ensures.value c.node.ensures.ordered c.in_ok-part-in_default.part.0 c.inner.new.env inside c.in_ok-eval-in_default.ensures.turns;
       refused = tt;
     }
-
-pub eval-returns-in_ok-constant-in-Const-clause-turns : goal.eval-returns-in_ok-constant-in-Const-clause-turns
-eval-returns-in_ok-constant-in-Const-clause-turns g t c =
-    leaf_arm c.args.heap.now c.constant.new.heap c.in_ok-constant-in-Const.field-0 c.args.p.now c.args.e.0 c.node.result.now c.args.env c.node.ensures.value c.node.ensures.ordered (node.Const c.in-Const.value c.in-Const.d) c.in-Const.is c.in_ok-constant-in-Const.ensures.turns
-
-pub eval-returns-in_ok-oscillator-in-Osc-clause-turns : goal.eval-returns-in_ok-oscillator-in-Osc-clause-turns
-eval-returns-in_ok-oscillator-in-Osc-clause-turns g t c =
-    leaf_arm c.args.heap.now c.oscillator.new.heap c.in_ok-oscillator-in-Osc.field-0 c.args.p.now c.args.e.0 c.node.result.now c.args.env c.node.ensures.value c.node.ensures.ordered (node.Osc c.in-Osc.key c.in-Osc.d) c.in-Osc.is c.in_ok-oscillator-in-Osc.ensures.turns
-
-pub eval-returns-in_ok-hz_oscillator-in-HzOsc-clause-turns : goal.eval-returns-in_ok-hz_oscillator-in-HzOsc-clause-turns
-eval-returns-in_ok-hz_oscillator-in-HzOsc-clause-turns g t c =
-    leaf_arm c.args.heap.now c.hz_oscillator.new.heap c.in_ok-hz_oscillator-in-HzOsc.field-0 c.args.p.now c.args.e.0 c.node.result.now c.args.env c.node.ensures.value c.node.ensures.ordered (node.HzOsc c.in-HzOsc.hz c.in-HzOsc.d) c.in-HzOsc.is c.in_ok-hz_oscillator-in-HzOsc.ensures.turns
-
-pub eval-returns-in_ok-noise-in-Noise-clause-turns : goal.eval-returns-in_ok-noise-in-Noise-clause-turns
-eval-returns-in_ok-noise-in-Noise-clause-turns g t c =
-    leaf_arm c.args.heap.now c.noise.new.heap c.in_ok-noise-in-Noise.field-0 c.args.p.now c.args.e.0 c.node.result.now c.args.env c.node.ensures.value c.node.ensures.ordered (node.Noise c.in-Noise.seed c.in-Noise.d) c.in-Noise.is c.in_ok-noise-in-Noise.ensures.turns
-
-pub eval-returns-in_ok-rest-in-Rest-clause-turns : goal.eval-returns-in_ok-rest-in-Rest-clause-turns
-eval-returns-in_ok-rest-in-Rest-clause-turns g t c =
-    leaf_arm c.args.heap.now c.rest.new.heap c.in_ok-rest-in-Rest.field-0 c.args.p.now c.args.e.0 c.node.result.now c.args.env c.node.ensures.value c.node.ensures.ordered (node.Rest c.in-Rest.d) c.in-Rest.is c.in_ok-rest-in-Rest.ensures.turns
 
 pub both-returns-in_err-copy-clause-refused : goal.both-returns-in_err-copy-clause-refused
 both-returns-in_err-copy-clause-refused g t c = on_err _ _ (before_none c.args.heap.now c.lawful.ensures)
@@ -183,76 +122,38 @@ eval-inner-requires g t c =
     let no = c.in_default in
     record {
       inside = c.requires.inside;
-      outer = outer_left c.node.result.now no.not-Add no.not-Sub no.not-Mul no.not-Max no.not-Min no.not-Neg no.not-Const no.not-Osc no.not-HzOsc no.not-Lfo no.not-Noise no.not-Rest no.not-Ramp no.not-Pwl no.not-Abs no.not-OnePole no.not-Biquad no.not-Comb c.args.p.now c.args.e.0 c.node.ensures.value c.requires.built;
+      outer = outer_left c.node.result.now no.not-Pair no.not-Neg no.not-Leaf no.not-Effect c.args.p.now c.args.e.0 c.node.ensures.value c.requires.built;
       built = c.requires.built;
     }
 
-pub eval-returns-in_ok-lfo-in-Lfo-clause-turns : goal.eval-returns-in_ok-lfo-in-Lfo-clause-turns
-eval-returns-in_ok-lfo-in-Lfo-clause-turns g t c =
-    leaf_arm c.args.heap.now c.lfo.new.heap c.in_ok-lfo-in-Lfo.field-0 c.args.p.now c.args.e.0 c.node.result.now c.args.env c.node.ensures.value c.node.ensures.ordered (node.Lfo c.in-Lfo.hz c.in-Lfo.d) c.in-Lfo.is c.in_ok-lfo-in-Lfo.ensures.turns
+pub eval-returns-in_ok-make_leaf-in-Leaf-clause-turns : goal.eval-returns-in_ok-make_leaf-in-Leaf-clause-turns
+eval-returns-in_ok-make_leaf-in-Leaf-clause-turns g t c =
+    leaf_arm c.args.heap.now c.make_leaf.new.heap c.in_ok-make_leaf-in-Leaf.field-0 c.args.p.now c.args.e.0 c.node.result.now c.args.env c.node.ensures.value c.node.ensures.ordered c.in-Leaf.generator c.in-Leaf.parts c.as_slice.result.now c.in-Leaf.is c.as_slice.ensures c.in_ok-make_leaf-in-Leaf.ensures.turns
 
-pub eval-returns-in_ok-ramp-in-Ramp-clause-turns : goal.eval-returns-in_ok-ramp-in-Ramp-clause-turns
-eval-returns-in_ok-ramp-in-Ramp-clause-turns g t c =
-    leaf_arm c.args.heap.now c.ramp.new.heap c.in_ok-ramp-in-Ramp.field-0 c.args.p.now c.args.e.0 c.node.result.now c.args.env c.node.ensures.value c.node.ensures.ordered (node.Ramp c.in-Ramp.d) c.in-Ramp.is c.in_ok-ramp-in-Ramp.ensures.turns
+pub eval-affected-requires : goal.eval-affected-requires
+eval-affected-requires g t c κs within =
+    let part = effect_part c.args.p.now c.args.e.0 c.in-Effect.effect c.in-Effect.part c.in-Effect.parts c.node.result.now c.node.ensures.value c.in-Effect.is c.requires.built in
+    (omega (arith, part.0, c.decreases), (search rules, (c.requires.inside, (omega (arith, part.0, c.requires.inside), (part.1, search rules)))))
 
-pub eval-returns-in_ok-envelope-in-Pwl-clause-turns : goal.eval-returns-in_ok-envelope-in-Pwl-clause-turns
-eval-returns-in_ok-envelope-in-Pwl-clause-turns g t c =
-    envelope_arm c.args.heap.now c.envelope.new.heap c.in_ok-envelope-in-Pwl.field-0 c.args.p.now c.args.e.0 c.node.result.now c.args.env c.node.ensures.value c.node.ensures.ordered c.in-Pwl.parts c.as_slice.result.now c.in-Pwl.is c.as_slice.ensures c.in_ok-envelope-in-Pwl.ensures.turns
+pub eval-returns-in_ok-affected-in-Effect-clause-turns : goal.eval-returns-in_ok-affected-in-Effect-clause-turns
+eval-returns-in_ok-affected-in-Effect-clause-turns g t c =
+    let part = effect_part c.args.p.now c.args.e.0 c.in-Effect.effect c.in-Effect.part c.in-Effect.parts c.node.result.now c.node.ensures.value c.in-Effect.is c.requires.built in
+    effect_arm c.args.heap.now c.affected.new.heap c.in_ok-affected-in-Effect.field-0 c.args.p.now c.args.e.0 c.node.result.now c.args.env c.node.ensures.value c.node.ensures.ordered c.in-Effect.effect c.in-Effect.part c.in-Effect.parts c.as_slice-in-Effect.result.now c.in-Effect.is c.as_slice-in-Effect.ensures part.0 c.in_ok-affected-in-Effect.ensures.turns
 
-pub eval-filtered-requires : goal.eval-filtered-requires
-eval-filtered-requires g t c κs within =
-    let part = abs_part c.args.p.now c.args.e.0 c.in-Abs.part c.node.result.now c.node.ensures.value c.in-Abs.is c.requires.built in
-    (omega (arith, part.0, c.decreases), (search rules, (c.requires.inside, (omega (arith, part.0, c.requires.inside), part.1))))
+pub affected-returns-in_err-numbers-clause-refused : goal.affected-returns-in_err-numbers-clause-refused
+affected-returns-in_err-numbers-clause-refused g t c = on_err _ _ (before_none c.args.heap.now c.lawful.ensures)
 
-pub eval-returns-in_ok-filtered-in-Abs-clause-turns : goal.eval-returns-in_ok-filtered-in-Abs-clause-turns
-eval-returns-in_ok-filtered-in-Abs-clause-turns g t c =
-    let part = abs_part c.args.p.now c.args.e.0 c.in-Abs.part c.node.result.now c.node.ensures.value c.in-Abs.is c.requires.built in
-    shaped_arm c.args.heap.now c.filtered.new.heap c.in_ok-filtered-in-Abs.field-0 c.args.p.now c.args.e.0 c.node.result.now c.args.env c.node.ensures.value c.node.ensures.ordered (node.Abs c.in-Abs.part) c.in-Abs.part.0 c.in-Abs.is part.0 refl c.in_ok-filtered-in-Abs.ensures.turns
+pub affected-single-requires-clause-hands : goal.affected-single-requires-clause-hands
+affected-single-requires-clause-hands g t c = turn_hands c.args.heap.now c.eval.new.heap c.in_ok-sound.sound (2 * c.args.part.0 + 1) _ c.lawful.ensures c.in_ok-sound.ensures.turns
 
-pub eval-filtered-requires-in-OnePole : goal.eval-filtered-requires-in-OnePole
-eval-filtered-requires-in-OnePole g t c κs within =
-    let part = one_pole_part c.args.p.now c.args.e.0 c.in-OnePole.part c.in-OnePole.field-1 c.node.result.now c.node.ensures.value c.in-OnePole.is c.requires.built in
-    (omega (arith, part.0, c.decreases), (search rules, (c.requires.inside, (omega (arith, part.0, c.requires.inside), part.1))))
+pub affected-single-requires-clause-made : goal.affected-single-requires-clause-made
+affected-single-requires-clause-made g t c = effect_single c.args.effect c.as_slice.result.now c.in_ok-sound.sound.timing.rate c.make_of-make.result c.make_of-make.ensures
 
-pub eval-returns-in_ok-filtered-in-OnePole-clause-turns : goal.eval-returns-in_ok-filtered-in-OnePole-clause-turns
-eval-returns-in_ok-filtered-in-OnePole-clause-turns g t c =
-    let part = one_pole_part c.args.p.now c.args.e.0 c.in-OnePole.part c.in-OnePole.field-1 c.node.result.now c.node.ensures.value c.in-OnePole.is c.requires.built in
-    shaped_arm c.args.heap.now c.filtered-in-OnePole.new.heap c.in_ok-filtered-in-OnePole.field-0 c.args.p.now c.args.e.0 c.node.result.now c.args.env c.node.ensures.value c.node.ensures.ordered (node.OnePole c.in-OnePole.part c.in-OnePole.field-1) c.in-OnePole.part.0 c.in-OnePole.is part.0 refl c.in_ok-filtered-in-OnePole.ensures.turns
-
-pub eval-filtered-requires-in-Biquad : goal.eval-filtered-requires-in-Biquad
-eval-filtered-requires-in-Biquad g t c κs within =
-    let part = biquad_part c.args.p.now c.args.e.0 c.in-Biquad.part c.in-Biquad.field-1 c.node.result.now c.node.ensures.value c.in-Biquad.is c.requires.built in
-    (omega (arith, part.0, c.decreases), (search rules, (c.requires.inside, (omega (arith, part.0, c.requires.inside), part.1))))
-
-pub eval-returns-in_ok-filtered-in-Biquad-clause-turns : goal.eval-returns-in_ok-filtered-in-Biquad-clause-turns
-eval-returns-in_ok-filtered-in-Biquad-clause-turns g t c =
-    let part = biquad_part c.args.p.now c.args.e.0 c.in-Biquad.part c.in-Biquad.field-1 c.node.result.now c.node.ensures.value c.in-Biquad.is c.requires.built in
-    shaped_arm c.args.heap.now c.filtered-in-Biquad.new.heap c.in_ok-filtered-in-Biquad.field-0 c.args.p.now c.args.e.0 c.node.result.now c.args.env c.node.ensures.value c.node.ensures.ordered (node.Biquad c.in-Biquad.part c.in-Biquad.field-1) c.in-Biquad.part.0 c.in-Biquad.is part.0 refl c.in_ok-filtered-in-Biquad.ensures.turns
-
-pub eval-filtered-requires-in-Comb : goal.eval-filtered-requires-in-Comb
-eval-filtered-requires-in-Comb g t c κs within =
-    let part = comb_part c.args.p.now c.args.e.0 c.in-Comb.part c.in-Comb.field-1 c.in-Comb.field-2 c.node.result.now c.node.ensures.value c.in-Comb.is c.requires.built in
-    (omega (arith, part.0, c.decreases), (search rules, (c.requires.inside, (omega (arith, part.0, c.requires.inside), part.1))))
-
-pub eval-returns-in_ok-filtered-in-Comb-clause-turns : goal.eval-returns-in_ok-filtered-in-Comb-clause-turns
-eval-returns-in_ok-filtered-in-Comb-clause-turns g t c =
-    let part = comb_part c.args.p.now c.args.e.0 c.in-Comb.part c.in-Comb.field-1 c.in-Comb.field-2 c.node.result.now c.node.ensures.value c.in-Comb.is c.requires.built in
-    shaped_arm c.args.heap.now c.filtered-in-Comb.new.heap c.in_ok-filtered-in-Comb.field-0 c.args.p.now c.args.e.0 c.node.result.now c.args.env c.node.ensures.value c.node.ensures.ordered (node.Comb c.in-Comb.part c.in-Comb.field-1 c.in-Comb.field-2) c.in-Comb.part.0 c.in-Comb.is part.0 refl c.in_ok-filtered-in-Comb.ensures.turns
-
-pub filtered-returns-in_err-shape-clause-refused : goal.filtered-returns-in_err-shape-clause-refused
-filtered-returns-in_err-shape-clause-refused g t c = on_err _ _ (before_none c.args.heap.now c.lawful.ensures)
-
-pub filtered-single-requires-clause-hands : goal.filtered-single-requires-clause-hands
-filtered-single-requires-clause-hands g t c = turn_hands c.args.heap.now c.eval.new.heap c.in_ok-sound.sound (2 * c.args.part.0 + 1) _ c.lawful.ensures c.in_ok-sound.ensures.turns
-
-pub filtered-single-requires-clause-made : goal.filtered-single-requires-clause-made
-filtered-single-requires-clause-made g t c = shape_single c.in_ok-shape.shape c.in_ok-sound.sound.timing.rate c.make_of-make.result c.make_of-make.ensures
-
-pub filtered-returns-in_err-single-clause-refused : goal.filtered-returns-in_err-single-clause-refused
-filtered-returns-in_err-single-clause-refused g t c =
+pub affected-returns-in_err-single-clause-refused : goal.affected-returns-in_err-single-clause-refused
+affected-returns-in_err-single-clause-refused g t c =
     on_err _ _ (turn_given_up c.args.heap.now c.eval.new.heap c.single.new.heap c.in_ok-sound.sound (2 * c.args.part.0 + 1) 1 _ c.lawful.ensures c.in_ok-sound.ensures.turns c.in_err-single.ensures.gives_up)
 
-pub filtered-returns-clause-turns : goal.filtered-returns-clause-turns
-filtered-returns-clause-turns g t c =
-    shaped_turns c.args.heap.now c.eval.new.heap c.single.new.heap c.in_ok-sound.sound c.in_ok-single.field-0 (2 * c.args.part.0 + 1) (2 * c.args.part.0 + 2) _ c.in_ok-shape.shape _ c.make_of-make.result (omega arith) c.lawful.ensures
-    c.in_ok-sound.ensures.turns c.make_of-make.ensures c.in_ok-shape.ensures c.in_ok-single.ensures.replaces
+pub affected-returns-clause-turns : goal.affected-returns-clause-turns
+affected-returns-clause-turns g t c =
+    effect_turns c.args.heap.now c.eval.new.heap c.single.new.heap c.in_ok-sound.sound c.in_ok-single.field-0 (2 * c.args.part.0 + 1) (2 * c.args.part.0 + 2) _ c.args.effect c.as_slice.result.now _ c.make_of-make.result (omega arith) c.lawful.ensures
+    c.in_ok-sound.ensures.turns c.make_of-make.ensures (c.as_slice.ensures.value ∙ c.in_ok-numbers.ensures) c.in_ok-single.ensures.replaces

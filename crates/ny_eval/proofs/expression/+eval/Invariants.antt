@@ -14,5 +14,5 @@ decreases-at_sound_rate g l = 4 * l.e.0 + 1
 abbrev pub decreases-pair : goal.decreases-pair
 decreases-pair g l = 4 * max l.a.0 l.b.0 + 2
 
-abbrev pub decreases-filtered : goal.decreases-filtered
-decreases-filtered g l = 4 * l.part.0 + 1
+abbrev pub decreases-affected : goal.decreases-affected
+decreases-affected g l = 4 * l.part.0 + 1

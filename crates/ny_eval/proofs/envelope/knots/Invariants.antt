@@ -2,7 +2,7 @@ use Rattle.std.proofs.Common.{◌≡◌, ◌*◌, ◌++◌, ◌∷◌, map, drop
 use Rattle.ny_check.specs.Behaviours.{breakpoints, breakpoints_after}
 use Rattle.ny_units.specs.Envelopes.{corners}
 use Rattle.ny_eval.specs.Knots.{knot_from}
-use Rattle.ny_eval.proofs.control.knots.Given as goal
+use Rattle.ny_eval.proofs.envelope.knots.Given as goal
 
 -- the knots so far, and those of the numbers that are left
 abbrev pub invariant-loop-k : goal.invariant-loop-k

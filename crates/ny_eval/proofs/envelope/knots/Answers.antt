@@ -2,7 +2,7 @@ use Rattle.std.proofs.Common.{length, ap, ◌∙◌, arith}
 use Rattle.std.specs.Int.{int_max}
 use Rattle.std.proofs.lemmas.Grind.{div_ceil_times}
 use Rattle.ny_eval.proofs.EnvelopeLemmas.{next_knot}
-use Rattle.ny_eval.proofs.control.knots.Goals as goal
+use Rattle.ny_eval.proofs.envelope.knots.Goals as goal
 
 pub loop-k-preserved : goal.loop-k-preserved
 loop-k-preserved c =
