@@ -64,7 +64,7 @@ behavior-past ds here n ks h k = ap (λ (b : Behavior). b ks) (sym (seen-past ds
 
 -- what is missing in a body that comes before comes before
 pub reason-wider : (most : Option ℕ) (n m : ℕ) (s : Stop) → n < m → IsReason most n s → IsReason most m s
-reason-wider most n m (stop.Missing u) h k = let one : u.number < n = k in omega arith
+reason-wider most n m (stop.Missing u callers) h k = let one : u.number < n = k.0 in (omega arith, λ i d l. let each : (get_or callers i d).number < n = k.1 i d l in omega arith)
 reason-wider most n m stop.TooManyNodes h k = k
 reason-wider most n m stop.OutOfMemory h k = k
 

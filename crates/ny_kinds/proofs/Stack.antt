@@ -14,7 +14,7 @@ use Rattle.ny_kinds.specs.declared.kind.Use.{Use}
 use Rattle.ny_kinds.specs.declared.kind.Stop.{Stop}
 use Rattle.ny_kinds.specs.declared.kind.Stop.TheVariants as stop
 use Rattle.ny_kinds.specs.Kinds.{some_kinds, behavior_at}
-use Rattle.ny_kinds.specs.Table.{IsRight, IsReason, top_of}
+use Rattle.ny_kinds.specs.Table.{IsRight, IsReason, AreBefore, top_of}
 
 pub top_of-push : (us : List Use) (u : Use) → top_of (us ++ u ∷ []) ≡ u.number + 1
 top_of-push [] u = refl
@@ -58,8 +58,21 @@ smaller_longer len len' top top' more small high low = omega arith
 pub smaller_down : (len len' top top' : ℕ) → len ≤ len' → len' < 2 ^ 63 → top' < top → (2 ^ 63 - len') * 2 ^ 32 + top' < (2 ^ 63 - len) * 2 ^ 32 + top
 smaller_down len len' top top' more small h = omega arith
 
-pub number_of : (most : Option ℕ) (here : ℕ) (s : Stop) (u : Use) → s ≡ stop.Missing u → IsReason most here s → u.number < here
-number_of most here s u is h = subst (IsReason most here) is h
+pub missing_is : (most : Option ℕ) (here : ℕ) (s : Stop) (u : Use) (callers : List Use) → s ≡ stop.Missing u callers → IsReason most here s → (u.number < here) × AreBefore here callers
+missing_is most here s u callers is h = subst (IsReason most here) is h
+
+pub before_wider : (n m : ℕ) (us : List Use) → n ≤ m → AreBefore n us → AreBefore m us
+before_wider n m us le h = λ i d l. let each : (get_or us i d).number < n = h i d l in omega arith
+
+pub none_before : (n : ℕ) (us : List Use) → us ≡ [] → AreBefore n us
+none_before n us is = subst (AreBefore n) (sym is) (λ i d l. absurd (omega arith))
+
+-- one more caller
+pub reason_more : (most : Option ℕ) (n here : ℕ) (s : Stop) (u caller : Use) (callers : List Use) → s ≡ stop.Missing u callers → caller.number ≡ n → n < here
+    → IsReason most n s → IsReason most here (stop.Missing u (callers ++ caller ∷ []))
+reason_more most n here s u caller callers is number before h =
+    let all : (u.number < n) × AreBefore n callers = missing_is most n s u callers is h in
+    (omega (arith, all.0), All-push (λ (w : Use). w.number < here) callers caller (λ i d l. omega (arith, all.1 i d l)) (omega arith))
 
 pub stack_last : (n : ℕ) (us all : List Use) (u : Use) → all ≡ us ++ u ∷ [] → All (λ (w : Use). w.number < n) all → u.number < n
 stack_last n us all u is h =

@@ -12,9 +12,12 @@ pub record IsRight (ds : List Declared) (e : Entry) : Type 0 where
   pub within : e.number < length ds
   pub found : e.found ≡ behavior_at ds e.number e.kinds
 
--- what is missing is a function that comes before, and too many expressions were judged only where there is a bound
+abbrev pub AreBefore : ℕ → List Use → Type 0
+AreBefore here us = All (λ (u : Use). u.number < here) us
+
+-- what is missing is a function that comes before, as do those that called for it, and too many expressions were judged only where there is a bound
 abbrev pub IsReason : Option ℕ → ℕ → Stop → Type 0
-IsReason most here (stop.Missing u) = u.number < here
+IsReason most here (stop.Missing u callers) = (u.number < here) × AreBefore here callers
 IsReason most here stop.TooManyNodes = is_some most ≡ true
 IsReason most here stop.OutOfMemory = Unit {0}
 

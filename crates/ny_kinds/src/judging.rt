@@ -1,4 +1,4 @@
-ghost use Rattle.std.specs.Prelude.{◌≡◌, ◌≤◌, ◌<◌, get_or, length, take, All, IfOk, IfErr, OnOk, map, None, zip, vec_len};
+ghost use Rattle.std.specs.Prelude.{◌≡◌, ◌≤◌, ◌<◌, Option, ℕ, get_or, length, take, All, IfOk, IfErr, OnOk, map, None, zip, vec_len};
 ghost use Rattle.std.specs.List.{list_any, list_all};
 ghost use Rattle.ny_kinds.specs.Rows.{is_value};
 ghost use Rattle.ny_kinds.specs.Kinds.{kind_named, least, judged, all_kinds, operands_row, divided_row, sound_row, returned_row, called, is_refused_bind, is_silent_bind, named_kind, block_row, several, several_binds, kind_of, kind_of_bind, some_kinds, behavior, behavior_at, scope_of, seen, nothing};
@@ -206,11 +206,32 @@ fn body_found(
         return Ok(found);
     }
     if limits.levels == 0 {
-        return Err(Stop::Missing(Use { number, kinds }));
+        return Err(Stop::Missing(Use { number, kinds }, Items::new(alloc)));
     }
-    let found = judge_body(alloc, ds, table, limits, number, kinds.as_slice())?;
-    table.add(ds, Use { number, kinds }, found)?;
-    Ok(found)
+    match judge_body(alloc, ds, table, limits, number, kinds.as_slice()) {
+        Ok(found) => {
+            table.add(ds, Use { number, kinds }, found)?;
+            Ok(found)
+        }
+        Err(stop) => Err(called_from(stop, Use { number, kinds })),
+    }
+}
+
+/// The same reason, where this function's body called for what is missing.
+fn called_from(stop: Stop, caller: Use) -> Stop
+    ensures { (most : Option ℕ) → (here : ℕ) → caller.number < here → IsReason most caller.number stop → IsReason most here result }
+{
+    match stop {
+        Stop::Missing(earlier, callers) => {
+            let mut callers = callers;
+            match callers.push(caller) {
+                Ok(_) => Stop::Missing(earlier, callers),
+                Err(_) => Stop::OutOfMemory,
+            }
+        }
+        Stop::TooManyNodes => Stop::TooManyNodes,
+        Stop::OutOfMemory => Stop::OutOfMemory,
+    }
 }
 
 /// What a function's body is for these kinds.

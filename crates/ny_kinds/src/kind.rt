@@ -57,8 +57,8 @@ pub struct Entry {
 /// Why an expression is not judged yet.
 #[derive(Debug, Drop)]
 pub enum Stop {
-    /// This function is to be judged first, for these kinds.
-    Missing(Use),
+    /// This function is to be judged first, for these kinds; and then those whose bodies called for it, from the innermost on.
+    Missing(Use, Items<Use>),
     /// As many expressions were judged as are to be.
     TooManyNodes,
     OutOfMemory,

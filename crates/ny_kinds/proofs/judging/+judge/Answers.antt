@@ -13,6 +13,9 @@ pub body_found-judge_body-requires : goal.body_found-judge_body-requires
 body_found-judge_body-requires t c =
     (omega (arith, body-falls c.args.ds.now c.args.number c.args.here (omega arith), c.decreases), (omega arith, c.requires.known))
 
+pub body_found-returns-in-Err-clause-missing : goal.body_found-returns-in-Err-clause-missing
+body_found-returns-in-Err-clause-missing t c = c.called_from.ensures c.args.limits.most c.args.here (omega arith) c.in-Err.ensures.missing
+
 pub judge-returns-in_ok-part-in-Repeat-clause-found : goal.judge-returns-in_ok-part-in-Repeat-clause-found
 judge-returns-in_ok-part-in-Repeat-clause-found t c =
     arm-Repeat c.args.e.now c.in-Repeat.field-0 c.in-Repeat.x c.in-Repeat.field-2 c.in-Repeat.part c.args.ds.now c.args.here c.args.values.now c.bind.new.self
