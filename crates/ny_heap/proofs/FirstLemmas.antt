@@ -1,10 +1,10 @@
 -- What a unit wants, by the table.
-use Rattle.std.proofs.Common.{◌≡◌, ℕ, zero, suc, ◌+◌, ◌-◌, ◌*◌, ◌<◌, min, Bool, true, false, cond, nat_lt, List, [], ◌∷◌, length, get_or, map, Option, None, Some, IsSomeAnd, IsTrue, refl, sym, ap, ◌∙◌, arith}
-use Rattle.std.proofs.lemmas.Bool.{ne_eqb}
+use Rattle.std.proofs.Common.{◌≡◌, ◌⊎◌, inl, inr, is_some, ◌≤◌, ℕ, zero, suc, ◌+◌, ◌-◌, ◌*◌, ◌<◌, min, Bool, true, false, cond, nat_lt, List, [], ◌∷◌, length, get_or, map, Option, None, Some, IsSomeAnd, IsTrue, refl, sym, ap, ◌∙◌, arith}
+use Rattle.std.proofs.lemmas.Bool.{ne_eqb, cases_lt, true≢false}
 use Rattle.std.specs.List.{range_with_len}
 use Rattle.std.specs.Option.{option_map, option_map_or}
 use Rattle.ny_list.specs.Store.{ListState, CursorState, list_at}
-use Rattle.ny_list.proofs.IndexLemmas.{none_some}
+use Rattle.ny_list.proofs.IndexLemmas.{none_some, same_some, tab_get, tab_past}
 use Rattle.ny_units.specs.Inputs.{start_of, reader_of, need_of}
 use Rattle.ny_units.specs.declared.input.Source.{Source}
 use Rattle.ny_units.specs.declared.input.Source.TheVariants.{Reader as ListSource, Number}
@@ -12,14 +12,15 @@ use Rattle.ny_heap.specs.declared.table.Unit.{Unit as UnitData}
 use Rattle.ny_heap.specs.declared.table.Table.{Table}
 use Rattle.ny_heap.specs.declared.work.Work.{Work}
 use Rattle.ny_heap.specs.declared.work.Work.TheVariants.{Leaf as LeafWork, Pair as PairWork, Abs as AbsWork, Resample as ResampleWork, Filter as FilterWork, Channel as ChannelWork}
-use Rattle.ny_heap.specs.Heap.{Reader, Node, node_at, is_open, computed_of, next_taken, taken_after}
+use Rattle.ny_heap.specs.Heap.{Reader, Node, node_at, input_at, is_open, computed_of, next_taken, taken_after}
 use Rattle.ny_heap.specs.Steps.{lacks, wants, want_of}
+use Rattle.ny_heap.specs.Wanting.{NoneWanted}
 use Rattle.ny_num.specs.declared.timing.Timing.{Timing}
 use Rattle.ny_units.specs.Resamplings as resamplings
 use Rattle.ny_units.specs.Resamplings.{next_after}
 use Rattle.ny_heap.specs.Work.{kind_of, inputs_in, cursor_at, source_at, need_in}
 use Rattle.ny_heap.specs.Tasks.{BeginsAt, BringsFrom}
-use Rattle.ny_heap.specs.Table.{unit_at, timing_at, input_of, readers_of, IsTable, IsThere, computed_in, computed_next_in, lacks_in, lacking_from, or_else}
+use Rattle.ny_heap.specs.Table.{unit_at, timing_at, input_of, readers_of, IsTable, IsThere, computed_in, computed_next_in, lacks_in, lacking_from, or_else, NoneBefore}
 use Rattle.ny_heap.specs.View.{node_of, state_of, filled_in}
 use Rattle.ny_heap.proofs.NeedLemmas.{taken_at}
 use Rattle.ny_heap.proofs.WantLemmas.{inputs_there}
@@ -116,6 +117,37 @@ module _ (B : Type 0) (t : Table) (table : IsTable t []) (fills peak : ℕ) (u :
   want_is =
       ap (λ (o : Option (Node B)). option_map_or (λ y. wants (state_of t fills peak) y y.inputs) o None) (node_of_unit B t fills peak u x at)
       ∙ wants_from 0 (length x.inputs.items) (omega (arith, list_u.2.count)) ∙ ap (lacking_from t x (computed_next_in t u) 0) list_u.2.count
+
+  -- whether an input lacks, by the table
+  lack_is : (i : ℕ) → i < inputs_in x.work → lacks {B = B} (state_of t fills peak) (node_of t [] u x) (get_or (readers_of x) i None) ≡ is_some (lacks_in t x (computed_next_in t u) (cursor_at x.work i) i)
+  lack_is i inside = ap (lacks {B = B} (state_of t fills peak) (node_of t [] u x)) (tab_get (input_of x) (length x.inputs.items) i None (omega (arith, inside, list_u.2.count))) ∙ by_cursor (cursor_at x.work i) refl
+    where
+      by_cursor : (o : Option CursorState) → cursor_at x.work i ≡ o → lacks {B = B} (state_of t fills peak) (node_of t [] u x) (option_map {U = Reader} (λ c. record { node = c.list; place = c.place; timing = timing_at x i }) o) ≡ is_some (lacks_in t x (computed_next_in t u) o i)
+      by_cursor None is = refl
+      by_cursor (Some c) is = test ∙ by (nat_lt (computed_in t c.list) (need_in x.work i (computed_next_in t u)))
+        where
+          test : nat_lt (option_map_or {U = ℕ} (computed_of {B = B} t.block) (node_at {B = B} (state_of t fills peak) c.list) 0) (taken_after t.block (kind_of x.work) x.timing (timing_at x i) (filled_in t.store u + 1)) ≡ nat_lt (computed_in t c.list) (need_in x.work i (computed_next_in t u))
+          test = λ k. nat_lt (computed_is c.list (inputs_there t u i x table at inside c is) k) (sym (need_is i c inside is) k)
+
+          by : (b : Bool) → b ≡ is_some (cond b (Some c.list) None)
+          by true = refl
+          by false = refl
+
+  -- no input before a place lacks, as a contract says it and by the table
+  pub none_before : (n : ℕ) → NoneWanted {B = B} (state_of t fills peak) u n → NoneBefore t x (computed_next_in t u) n
+  none_before n none k before inside = nothing (lacks_in t x (computed_next_in t u) (cursor_at x.work k) k) (sym (lack_is k inside) ∙ none (node_of t [] u x) (node_of_unit B t fills peak u x at) k before)
+    where
+      nothing : (o : Option ℕ) → is_some o ≡ false → o ≡ None
+      nothing None e = refl
+      nothing (Some v) e = absurd (true≢false e)
+
+  pub none_wanted : (n : ℕ) → NoneBefore t x (computed_next_in t u) n → NoneWanted {B = B} (state_of t fills peak) u n
+  none_wanted n none y there k before =
+      ap (λ (z : Node B). lacks {B = B} (state_of t fills peak) z (input_at z k)) (same_some (sym there ∙ node_of_unit B t fills peak u x at)) ∙ by_place (cases_lt k (inputs_in x.work))
+    where
+      by_place : (k < inputs_in x.work) ⊎ (inputs_in x.work ≤ k) → lacks {B = B} (state_of t fills peak) (node_of t [] u x) (get_or (readers_of x) k None) ≡ false
+      by_place (inl inside) = lack_is k inside ∙ ap is_some (none k before inside)
+      by_place (inr past) = ap (lacks {B = B} (state_of t fills peak) (node_of t [] u x)) (tab_past (input_of x) (length x.inputs.items) k None (omega (arith, past, list_u.2.count)))
 
 -- an open unit, by the table
 pub open_is : (B : Type 0) (t : Table) (fills peak u : ℕ) → IsTable t [] → IsSomeAnd (node_at {B = B} (state_of t fills peak) u) (λ x. IsTrue (is_open t.block x)) → (x : UnitData) × (unit_at t u ≡ Some x) × IsThere t u

@@ -1,14 +1,15 @@
 -- What a unit wants, and heaps without units.
-use Rattle.std.proofs.Common.{◌≡◌, ℕ, zero, suc, ◌+◌, ◌-◌, ◌<◌, ◌≤◌, ◌^◌, List, [], ◌∷◌, length, get_or, replicate, Option, None, Some, IsSome, is_some, count_by, refl, sym, ap, subst, ◌∙◌, arith, cond}
+use Rattle.std.proofs.Common.{◌≡◌, inl, inr, ℕ, zero, suc, ◌+◌, ◌-◌, ◌<◌, ◌≤◌, ◌^◌, min, List, [], ◌∷◌, length, get_or, replicate, Option, None, Some, IsSome, is_some, count_by, refl, sym, ap, subst, ◌∙◌, arith, cond}
 use Rattle.std.specs.Option.{option_map}
 use Rattle.std.proofs.lemmas.List.{length-replicate}
+use Rattle.std.proofs.lemmas.Bool.{cases_lt}
 use Rattle.ny_list.specs.Store.{ListState, CursorState, list_at}
 use Rattle.ny_list.specs.Laws.{StoreLaws}
 use Rattle.ny_list.proofs.IndexLemmas.{none_some}
 use Rattle.ny_heap.specs.declared.table.Unit.{Unit as UnitData}
 use Rattle.ny_heap.specs.declared.table.Table.{Table}
 use Rattle.ny_heap.specs.Work.{inputs_in, cursor_at}
-use Rattle.ny_heap.specs.Table.{unit_at, IsTable, IsThere, lacks_in, lacking_from, or_else}
+use Rattle.ny_heap.specs.Table.{unit_at, IsTable, IsThere, lacks_in, lacking_from, or_else, NoneBefore}
 use Rattle.ny_heap.specs.View.{IsHeapInside}
 use Rattle.ny_heap.proofs.CountLemmas.{is_some_of}
 use Rattle.ny_heap.proofs.DropLemmas.{there_of}
@@ -39,10 +40,8 @@ inputs_there t u i x table at inside c cursor =
 pub record NoneLacks (t : Table) (x : UnitData) (done count i : ℕ) : Type 0 where
   pub counts : count ≡ inputs_in x.work
   pub within : i ≤ count
+  pub none : NoneBefore t x done i
   pub rest : lacking_from t x done 0 count ≡ lacking_from t x done i (count - i)
-
-pub NoneLacks-begun : (t : Table) (x : UnitData) (done count : ℕ) → count ≡ inputs_in x.work → NoneLacks t x done count 0
-NoneLacks-begun t x done count is = record { counts = is; within = omega arith; rest = let e : count ≡ count - 0 = omega arith in ap (lacking_from t x done 0) e }
 
 next_lacks : (t : Table) (x : UnitData) (done count i : ℕ) → i < count → NoneLacks t x done count i → lacking_from t x done 0 count ≡ or_else (lacks_in t x done (cursor_at x.work i) i) (lacking_from t x done (i + 1) (count - (i + 1)))
 next_lacks t x done count i inside n = let e : count - i ≡ suc (count - (i + 1)) = omega (arith, inside) in n.rest ∙ ap (lacking_from t x done i) e
@@ -51,8 +50,23 @@ pub NoneLacks-more : (t : Table) (x : UnitData) (done count i : ℕ) → i < cou
 NoneLacks-more t x done count i inside n none = record {
   counts = n.counts;
   within = omega (arith, inside);
+  none = λ k before there. elim (cases_lt k i) [
+    | inl less ↦ n.none k less there
+    | inr past ↦ let e : i ≡ k = omega (arith, before, past) in subst (λ j. lacks_in t x done (cursor_at x.work j) j ≡ None) e (sym none)
+  ];
   rest = next_lacks t x done count i inside n ∙ ap (λ o. or_else o (lacking_from t x done (i + 1) (count - (i + 1)))) (sym none);
 }
+
+-- so where none before a place does
+NoneLacks-to : (t : Table) (x : UnitData) (done count n i : ℕ) → count ≡ inputs_in x.work → i ≤ n → i ≤ count → NoneBefore t x done n → NoneLacks t x done count i
+NoneLacks-to t x done count n zero is low within none = record { counts = is; within = omega arith; none = λ k before. absurd (omega (arith, before)); rest = let e : count ≡ count - 0 = omega arith in ap (lacking_from t x done 0) e }
+NoneLacks-to t x done count n (suc i) is low within none =
+    let e : i + 1 ≡ suc i = omega arith in
+    subst (NoneLacks t x done count) e
+    (NoneLacks-more t x done count i (omega (arith, within)) (NoneLacks-to t x done count n i is (omega (arith, low)) (omega (arith, within)) none) (sym (none i (omega (arith, low)) (omega (arith, within, is)))))
+
+pub NoneLacks-begun : (t : Table) (x : UnitData) (done count n i : ℕ) → count ≡ inputs_in x.work → i ≡ min n count → NoneBefore t x done n → NoneLacks t x done count i
+NoneLacks-begun t x done count n i is least none = NoneLacks-to t x done count n i is (omega (arith, least)) (omega (arith, least)) none
 
 pub NoneLacks-found : (t : Table) (x : UnitData) (done count i v : ℕ) → i < count → NoneLacks t x done count i → Some v ≡ lacks_in t x done (cursor_at x.work i) i → Some v ≡ lacking_from t x done 0 (inputs_in x.work)
 NoneLacks-found t x done count i v inside n some =

@@ -3,6 +3,7 @@ pub mod Means
 pub mod Reach
 pub mod Steps
 pub mod Sharing
+pub mod Wanting
 pub mod Work
 pub mod Tasks
 pub mod Table

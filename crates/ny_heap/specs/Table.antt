@@ -173,3 +173,7 @@ lacks_in t x done (Some c) i = if nat_lt (computed_in t c.list) (need_in x.work 
 abbrev pub lacking_from : Table → UnitData → ℕ → ℕ → ℕ → Option ℕ
 lacking_from t x done i zero = None
 lacking_from t x done i (suc n) = or_else (lacks_in t x done (cursor_at x.work i) i) (lacking_from t x done (i + 1) n)
+
+-- no input before place n lacks
+abbrev pub NoneBefore : Table → UnitData → ℕ → ℕ → Type 0
+NoneBefore t x done n = (k : ℕ) → k < n → k < inputs_in x.work → lacks_in t x done (cursor_at x.work k) k ≡ None

@@ -1,10 +1,11 @@
-ghost use Rattle.std.specs.Prelude.{◌≡◌, ◌≢◌, nat_lt, if◌then◌else◌, ℕ, ◌+◌, ◌-◌, ◌<◌, ◌≤◌, ◌↔◌, ◌^◌, IsTrue, IsSomeAnd, [], Some, None, IfOk, OnOk, OnErr, is_err, length, take, drop, map, ◌++◌};
+ghost use Rattle.std.specs.Prelude.{◌≡◌, ◌≢◌, nat_lt, if◌then◌else◌, ℕ, ◌+◌, ◌-◌, ◌<◌, ◌≤◌, ◌↔◌, ◌^◌, IsTrue, IsSomeAnd, [], Some, None, IfSome, IfOk, OnOk, OnErr, is_err, length, take, drop, map, ◌++◌};
 ghost use Rattle.std.specs.Option.{option_map};
 ghost use Rattle.ny_heap.specs.Heap.{HeapState, Made, node_at, list_of, place_of, open_unit, is_open, live_of, free_of};
 ghost use Rattle.ny_heap.specs.Means.{Parts, Whole, Means, KeepsMeaning, sound_in};
 ghost use Rattle.ny_heap.specs.Reach.{HeapLaws, IsTrimmed};
 ghost use Rattle.ny_num.specs.Sound.{IsTiming};
 ghost use Rattle.ny_heap.specs.Sharing.{CanShare, moved_to};
+ghost use Rattle.ny_heap.specs.Wanting.{NoneWanted};
 ghost use Rattle.ny_heap.specs.Steps.{IsHeldSound, with_sound, without_sound, without_sounds, AreHeld, IsMadeOf, IsMixOf, sounds_of, waiting_of, kind_of_mix, Makes, MakesMeaning, want_of, IsSettledUnit, Fills, Passes, run_of, computed_in, advanced};
 
 use crate::adding::make_unit;
@@ -27,6 +28,13 @@ use std::marker::{Model, PhantomData};
 /// The number of a unit of a [`Heap`].
 #[derive(Clone, Copy, Debug, PartialEq, Eq)]
 pub struct UnitId(pub SlotId);
+
+/// An input of a unit that is to be filled further: its unit, and its place among the inputs.
+#[derive(Clone, Copy, Debug, PartialEq, Eq)]
+pub struct Wanted {
+    pub unit: UnitId,
+    pub place: u32,
+}
 
 /// Why a unit could not fill a block.
 #[derive(Clone, Copy, Debug, PartialEq, Eq)]
@@ -264,9 +272,26 @@ impl<B> Heap<B> {
         requires open { IsSomeAnd (node_at self.now u.0.0) (λ x. IsTrue (is_open self.now.block x)) }
         ensures first { option_map (λ v. v.0.0) result ≡ want_of self.now u.0.0 }
     {
-        match first_lacking(&self.table, u.0.0) {
+        match first_lacking(&self.table, u.0.0, 0) {
             None => None,
-            Some(v) => Some(UnitId(SlotId(v))),
+            Some(found) => Some(UnitId(SlotId(found.list))),
+        }
+    }
+
+    /// The same where no input before place `from` is wanted: these are passed over. It also tells the place of the input
+    /// that is found, from which the next search can go on once that has one block more.
+    pub fn want_from(&self, u: UnitId, from: u32) -> Option<Wanted>
+        requires open { IsSomeAnd (node_at self.now u.0.0) (λ x. IsTrue (is_open self.now.block x)) }
+        requires before { NoneWanted self.now u.0.0 from }
+        ensures first { option_map (λ w. w.unit.0.0) result ≡ want_of self.now u.0.0 }
+        ensures before { IfSome result (λ w. NoneWanted self.now u.0.0 w.place) }
+    {
+        match first_lacking(&self.table, u.0.0, from) {
+            None => None,
+            Some(found) => Some(Wanted {
+                unit: UnitId(SlotId(found.list)),
+                place: found.place,
+            }),
         }
     }
 

@@ -19,7 +19,7 @@ mod task;
 mod wants;
 mod work;
 
-pub use heap::{FillFault, Heap, UnitId};
+pub use heap::{FillFault, Heap, UnitId, Wanted};
 pub use make::Make;
 pub use ny_filters::Filter;
 pub use ny_kernels::Op;

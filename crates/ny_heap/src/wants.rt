@@ -1,7 +1,7 @@
-ghost use Rattle.std.specs.Prelude.{◌≡◌, ◌<◌, []};
+ghost use Rattle.std.specs.Prelude.{◌≡◌, ◌<◌, [], IfSome};
 ghost use Rattle.std.specs.Option.{ForSome, option_map};
 ghost use Rattle.ny_heap.specs.Work.{inputs_in, cursor_at};
-ghost use Rattle.ny_heap.specs.Table.{unit_at, IsTable, IsThere, computed_next_in, lacks_in, lacking_from};
+ghost use Rattle.ny_heap.specs.Table.{unit_at, IsTable, IsThere, computed_next_in, lacks_in, lacking_from, NoneBefore};
 
 use crate::table::{Table, Unit, computed, computed_next, unit_of};
 
@@ -28,18 +28,28 @@ fn lacking(table: &Table, unit: &Unit, i: u32, done: u32) -> Option<u32>
     }
 }
 
-/// The unit of the first input that is not computed far enough for a unit's next block.
-pub(crate) fn first_lacking(table: &Table, u: u32) -> Option<u32>
+/// An input that is not computed far enough: the list that it reads, and its place among its unit's inputs.
+#[derive(Clone, Copy, Debug, PartialEq, Eq)]
+pub(crate) struct Missing {
+    pub(crate) list: u32,
+    pub(crate) place: u32,
+}
+
+/// The first input that is not computed far enough for a unit's next block, where none before place `from` is that.
+pub(crate) fn first_lacking(table: &Table, u: u32, from: u32) -> Option<Missing>
     requires table { IsTable table.now [] }
     requires there { IsThere table.now u }
-    ensures { ForSome (unit_at table.now u) (λ x. result ≡ lacking_from table.now x (computed_next_in table.now u) 0 (inputs_in x.work)) }
+    requires before { ForSome (unit_at table.now u) (λ x. NoneBefore table.now x (computed_next_in table.now u) from) }
+    ensures first { ForSome (unit_at table.now u) (λ x. option_map (λ w. w.list) result ≡ lacking_from table.now x (computed_next_in table.now u) 0 (inputs_in x.work)) }
+    ensures before { IfSome result (λ w. ForSome (unit_at table.now u) (λ x. NoneBefore table.now x (computed_next_in table.now u) w.place)) }
 {
     let unit = unit_of(table, u);
     let done = computed_next(table, u);
     let count = unit.work.inputs();
-    for i in 0..count {
-        if let Some(v) = lacking(table, unit, i, done) {
-            return Some(v);
+    let begin = from.min(count);
+    for i in begin..count {
+        if let Some(list) = lacking(table, unit, i, done) {
+            return Some(Missing { list, place: i });
         }
     }
     None
