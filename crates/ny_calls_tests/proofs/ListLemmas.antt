@@ -1,11 +1,11 @@
 -- A list under test goes on.
-use Rattle.std.proofs.Common.{◌≡◌, inl, inr, ℕ, nat_eq, ◌+◌, ◌-◌, ◌*◌, ◌/◌, ◌<◌, ◌≤◌, min, List, [], ◌∷◌, ◌++◌, length, take, get_or, set, Option, None, Some, refl, sym, ap, subst, ◌∙◌, arith, length-set, length-append, ℤ}
+use Rattle.std.proofs.Common.{◌≡◌, inl, inr, ℕ, nat_eq, ◌+◌, ◌-◌, ◌*◌, ◌/◌, ◌<◌, ◌≤◌, List, [], ◌∷◌, ◌++◌, length, take, get_or, set, Option, None, Some, refl, sym, ap, subst, ◌∙◌, arith, length-set, length-append, ℤ}
 use Rattle.std.proofs.lemmas.List.{get_or-set_same, get_or_past, get_or_append_left}
 use Rattle.std.proofs.lemmas.Bool.{cases_lt, cond-true, cond-false, eq-eqb, ne_eqb}
 use Rattle.std.proofs.Math.Nat.{div-mul-le_self}
-use Rattle.std.specs.Option.{option_map, option_map_or}
-use Rattle.ny_list.specs.Store.{ListState, StoreState, CursorState, list_at, loose_at, mark_at, stands_in, blocks_of, least}
-use Rattle.ny_list.specs.Steps.{settled, entered, left, filled_with, begun, with_loose, with_move, with_block, Takes, Begins, IsComputed, IsUnfilled}
+use Rattle.std.specs.Option.{option_map}
+use Rattle.ny_list.specs.Store.{ListState, StoreState, CursorState, list_at, loose_at, stands_in, least}
+use Rattle.ny_list.specs.Steps.{settled, entered, left, filled_with, begun, with_loose, with_move, with_block, Takes, Begins}
 use Rattle.ny_list.specs.Laws.{StoreLaws}
 use Rattle.ny_list.proofs.GiveLemmas.{length-blank_below}
 use Rattle.ny_calls_tests.specs.Lists.{Plays}
@@ -20,27 +20,12 @@ seen_within s l x e =
       | inr past ↦ absurd (none_some (sym (get_or_past s.lists l None past) ∙ e))
     ]
 
--- the cursor stands where the store has it
-pub stood : (s : StoreState) (l : ℕ) (c : CursorState) (n : ℕ) → Plays s l c n → 0 < mark_at s c
-stood s l c n p =
-    let here : list_at s c.list ≡ Some p.list = ap (list_at s) p.of ∙ p.there in
-    subst (λ k. 0 < k) (sym (ap (λ o. option_map_or {U = ℕ} (λ x. get_or x.marks (stands_in s.block x.len c.place) 0) o 0) here ∙ (λ i. get_or p.list.marks (stands_in (p.block i) (p.len i) c.place) 0))) p.mark
-
 marked : (marks : List ℕ) (j : ℕ) → 0 < get_or marks j 0 → j < length marks
 marked marks j some =
     elim (cases_lt j (length marks)) [
       | inl inside ↦ inside
       | inr past ↦ absurd (omega (arith, some, get_or_past marks j 0 past))
     ]
-
-pub unfilled : (s : StoreState) (l : ℕ) (c : CursorState) (n : ℕ) → n < 2 → Plays s l c n → IsUnfilled s l
-unfilled s l c n few p = record {
-  list = p.list;
-  there = p.there;
-  unfilled =
-      let two : blocks_of s.block p.list.len ≡ 2 = (λ i. blocks_of (p.block i) (p.len i)) in
-      omega (arith, two, p.filled, few);
-}
 
 -- one block more
 pub filled_on : (s new : StoreState) (l b : ℕ) (c : CursorState) (n : ℕ) (samples : List ℤ) → Plays s l c n → new ≡ with_block s l b samples → StoreLaws new → Plays new l c (n + 1)
@@ -57,15 +42,6 @@ filled_on s new l b c n samples p is laws =
       of = p.of;
       mark = subst (λ k. 0 < k) (sym more) p.mark;
     }
-
-pub computed_on : (s : StoreState) (l : ℕ) (c : CursorState) (n : ℕ) → Plays s l c 2 → c.place + n ≤ 20 → IsComputed s c n
-computed_on s l c n p within = record {
-  list = p.list;
-  there = ap (list_at s) p.of ∙ p.there;
-  computed =
-      let e : min (length p.list.values * s.block) p.list.len ≡ min (2 * 16) 20 = (λ i. min (p.filled i * p.block i) (p.len i)) in
-      omega (arith, within, e);
-}
 
 -- where a cursor of the list stands, of at most 20 samples
 stands_few : (p : ℕ) → p ≤ 20 → stands_in 16 20 p ≤ 2
