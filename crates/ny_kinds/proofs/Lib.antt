@@ -2,3 +2,4 @@ pub mod Declarations
 pub mod Heights
 pub mod Joined
 pub mod Stack
+pub mod RefusalLaws

@@ -7,9 +7,11 @@
 mod judging;
 mod kind;
 mod known;
+mod laws;
 mod resolve;
 mod row;
 mod whole;
 
 pub use kind::{Found, Kind, Unjudged};
+pub use laws::refusal_laws;
 pub use whole::{channels, text_kind};
