@@ -8,6 +8,7 @@ pub mod ViewLemmas
 pub mod LawLemmas
 pub mod StepLemmas
 pub mod WantLemmas
+pub mod OpenLemmas
 pub mod NeedLemmas
 pub mod FirstLemmas
 pub mod SoundLemmas

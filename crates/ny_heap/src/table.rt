@@ -1,7 +1,6 @@
 ghost use Rattle.std.specs.Prelude.{◌≡◌, ◌*◌, ◌^◌, ◌<◌, ◌≤◌, min, Some, IsSome};
 ghost use Rattle.std.specs.Option.{ForSome};
 ghost use Rattle.ny_heap.specs.Work.{inputs_in};
-ghost use Rattle.ny_heap.specs.Heap.{blocks_of};
 ghost use Rattle.ny_heap.specs.Table.{unit_at, IsThere, computed_in, computed_next_in, is_open_in};
 
 use crate::work::Work;
@@ -45,14 +44,6 @@ pub(crate) fn inputs_of(table: &Table, u: u32) -> u32
     unit_of(table, u).work.inputs()
 }
 
-/// How many blocks a length has.
-pub(crate) fn blocks_in(block: u32, len: u32) -> u64
-    requires { 0 < block }
-    ensures { result ≡ blocks_of block len }
-{
-    (u64::from(len) + (u64::from(block) - 1)) / u64::from(block)
-}
-
 // How many samples of this length there are in so many blocks.
 fn samples_in(block: u32, len: u32, blocks: u64) -> u32
     requires { blocks ≤ 2 ^ 32 }
@@ -88,5 +79,7 @@ pub(crate) fn is_unfilled(table: &Table, u: u32) -> bool
     ensures { result ≡ is_open_in table.now u }
 {
     let unit = unit_of(table, u);
-    u64::from(table.store.filled(&unit.list)) < blocks_in(table.block, unit.timing.len)
+    // A block is left where the filled ones do not reach the end. So nothing is divided.
+    let filled = u64::from(table.store.filled(&unit.list));
+    filled * u64::from(table.block) < u64::from(unit.timing.len)
 }
