@@ -6,13 +6,15 @@ use Rattle.std.specs.Int.{int_min, int_max}
 use Rattle.ny_num.specs.Numbers.{sat_sample, sample_limit, sample_mul}
 use Rattle.ny_num.specs.declared.timing.Timing.{Timing}
 use Rattle.ny_num.specs.Leaves as leaves
-use Rattle.ny_num.specs.Leaves.{louder_value, wave_value, noise_value, increment, key_hz, key_of, seed_of}
+use Rattle.ny_num.specs.Leaves.{louder_value, ramp_value, wave_value, noise_value, increment, key_hz, key_of, seed_of}
 use Rattle.ny_num.specs.Sound as sounds
 use Rattle.ny_num.specs.Sound.{IsTiming, timing_of, sound_of}
 use Rattle.ny_warp.specs.declared.env.Env.{Env}
-use Rattle.ny_check.specs.Behaviours.{sustained_timing, rest_timing, const_sound, osc_sound, hzosc_sound, noise_sound, rest_sound}
+use Rattle.ny_check.specs.declared.node.Generator.{Generator}
+use Rattle.ny_check.specs.Families.{leaf_sound, leaf_time}
+use Rattle.ny_check.specs.Behaviours.{sustained_timing, plain_timing, rest_timing, const_sound, osc_sound, hzosc_sound, noise_sound, rest_sound, ramp_sound, lfo_sound}
 use Rattle.ny_units.specs.declared.leaves.Leaf.{Leaf as LeafOf}
-use Rattle.ny_units.specs.declared.leaves.Leaf.TheVariants.{Const, Osc, HzOsc, Noise}
+use Rattle.ny_units.specs.declared.leaves.Leaf.TheVariants.{Const, Osc, HzOsc, Noise, Ramp, Lfo}
 use Rattle.ny_units.specs.Playing.{leaf_value, IsLeaf, Reaches}
 use Rattle.ny_heap.specs.Heap.{Made, HeapState}
 use Rattle.ny_heap.specs.Means.{KeepsMeaning}
@@ -91,33 +93,51 @@ louder_twice loudness x = ap (λ k. sample_mul k x) (sample_twice loudness)
 same_leaf : (t u : Timing) (f g : ℕ → ℤ) → t ≡ u → ((n : ℕ) → f n ≡ g n) → leaves.leaf t f ≡ leaves.leaf u g
 same_leaf t u f g when same i = leaves.leaf (when i) (λ n. same n i)
 
-pub constant_is : (env : Env) (v d value len : ℤ) (k : ℤ) (t : Timing) → value ≡ v → len ≡ d → t ≡ sustained_timing env.sound_rate env len → k ≡ sat_sample value → leaves.leaf t (leaf_value (Const k)) ≡ const_sound env v d
+pub constant_is : (env : Env) (v d value : ℤ) (k : ℤ) (t : Timing) → value ≡ v → t ≡ sustained_timing env.sound_rate env d → k ≡ sat_sample value → leaves.leaf t (leaf_value (Const k)) ≡ const_sound env v d
 unfolding const_sound leaf_value
-constant_is env v d value len k t at_v at_d when is =
-    same_leaf t (sustained_timing env.sound_rate env d) (λ n. k) (λ n. sat_sample v) (when ∙ ap (sustained_timing env.sound_rate env) at_d) (λ n. is ∙ ap sat_sample at_v)
+constant_is env v d value k t at_v when is =
+    same_leaf t (sustained_timing env.sound_rate env d) (λ n. k) (λ n. sat_sample v) when (λ n. is ∙ ap sat_sample at_v)
 
-pub osc_is : (env : Env) (key d number len : ℤ) (inc : ℕ) (loud : ℤ) (t : Timing) → number ≡ key → len ≡ d → t ≡ sustained_timing env.sound_rate env len → inc ≡ increment (key_hz (key_of number env.transpose)) env.sound_rate → loud ≡ sat_sample env.loud → leaves.leaf t (leaf_value (Osc inc loud)) ≡ osc_sound env key d
+pub osc_is : (env : Env) (key d number : ℤ) (inc : ℕ) (loud : ℤ) (t : Timing) → number ≡ key → t ≡ sustained_timing env.sound_rate env d → inc ≡ increment (key_hz (key_of number env.transpose)) env.sound_rate → loud ≡ sat_sample env.loud → leaves.leaf t (leaf_value (Osc inc loud)) ≡ osc_sound env key d
 unfolding osc_sound leaf_value
-osc_is env key d number len inc loud t at_key at_d when at_inc at_loud =
-    same_leaf t (sustained_timing env.sound_rate env d) (λ n. louder_value loud (wave_value 1024 inc n)) (λ n. louder_value env.loud (wave_value 1024 (increment (key_hz (key_of key env.transpose)) env.sound_rate) n)) (when ∙ ap (sustained_timing env.sound_rate env) at_d)
+osc_is env key d number inc loud t at_key when at_inc at_loud =
+    same_leaf t (sustained_timing env.sound_rate env d) (λ n. louder_value loud (wave_value 1024 inc n)) (λ n. louder_value env.loud (wave_value 1024 (increment (key_hz (key_of key env.transpose)) env.sound_rate) n)) when
     (λ n.
     (λ i. louder_value (at_loud i) (wave_value 1024 ((at_inc ∙ ap (λ k. increment (key_hz (key_of k env.transpose)) env.sound_rate) at_key) i) n))
     ∙ louder_twice env.loud (wave_value 1024 (increment (key_hz (key_of key env.transpose)) env.sound_rate) n))
 
-pub hzosc_is : (env : Env) (hz d number len : ℤ) (inc : ℕ) (loud : ℤ) (t : Timing) → number ≡ hz → len ≡ d → t ≡ sustained_timing env.sound_rate env len → inc ≡ increment number env.sound_rate → loud ≡ sat_sample env.loud → leaves.leaf t (leaf_value (HzOsc inc loud)) ≡ hzosc_sound env hz d
+pub hzosc_is : (env : Env) (hz d number : ℤ) (inc : ℕ) (loud : ℤ) (t : Timing) → number ≡ hz → t ≡ sustained_timing env.sound_rate env d → inc ≡ increment number env.sound_rate → loud ≡ sat_sample env.loud → leaves.leaf t (leaf_value (HzOsc inc loud)) ≡ hzosc_sound env hz d
 unfolding hzosc_sound leaf_value
-hzosc_is env hz d number len inc loud t at_hz at_d when at_inc at_loud =
-    same_leaf t (sustained_timing env.sound_rate env d) (λ n. louder_value loud (wave_value 4096 inc n)) (λ n. louder_value env.loud (wave_value 4096 (increment hz env.sound_rate) n)) (when ∙ ap (sustained_timing env.sound_rate env) at_d)
+hzosc_is env hz d number inc loud t at_hz when at_inc at_loud =
+    same_leaf t (sustained_timing env.sound_rate env d) (λ n. louder_value loud (wave_value 4096 inc n)) (λ n. louder_value env.loud (wave_value 4096 (increment hz env.sound_rate) n)) when
     (λ n.
     (λ i. louder_value (at_loud i) (wave_value 4096 ((at_inc ∙ ap (λ k. increment k env.sound_rate) at_hz) i) n))
     ∙ louder_twice env.loud (wave_value 4096 (increment hz env.sound_rate) n))
 
-pub noise_is : (env : Env) (v d number len : ℤ) (x : ℕ) (loud : ℤ) (t : Timing) → number ≡ v → len ≡ d → t ≡ sustained_timing env.sound_rate env len → x ≡ seed_of number → loud ≡ sat_sample env.loud → leaves.leaf t (leaf_value (Noise x loud)) ≡ noise_sound env v d
+pub noise_is : (env : Env) (v d number : ℤ) (x : ℕ) (loud : ℤ) (t : Timing) → number ≡ v → t ≡ sustained_timing env.sound_rate env d → x ≡ seed_of number → loud ≡ sat_sample env.loud → leaves.leaf t (leaf_value (Noise x loud)) ≡ noise_sound env v d
 unfolding noise_sound leaf_value
-noise_is env v d number len x loud t at_v at_d when at_x at_loud =
-    same_leaf t (sustained_timing env.sound_rate env d) (λ n. louder_value loud (noise_value x n)) (λ n. louder_value env.loud (noise_value (seed_of v) n)) (when ∙ ap (sustained_timing env.sound_rate env) at_d)
+noise_is env v d number x loud t at_v when at_x at_loud =
+    same_leaf t (sustained_timing env.sound_rate env d) (λ n. louder_value loud (noise_value x n)) (λ n. louder_value env.loud (noise_value (seed_of v) n)) when
     (λ n. (λ i. louder_value (at_loud i) (noise_value ((at_x ∙ ap seed_of at_v) i) n)) ∙ louder_twice env.loud (noise_value (seed_of v) n))
 
-pub rest_is : (env : Env) (d len : ℤ) (t : Timing) (k : ℤ) → len ≡ d → t ≡ rest_timing env len → k ≡ pos 0 → leaves.leaf t (leaf_value (Const k)) ≡ rest_sound env d
+pub rest_is : (env : Env) (d : ℤ) (t : Timing) → t ≡ rest_timing env d → leaves.leaf t (leaf_value (Const (pos 0))) ≡ rest_sound env d
 unfolding rest_sound leaf_value
-rest_is env d len t k at_d when is = same_leaf t (rest_timing env d) (λ n. k) (λ n. pos 0) (when ∙ ap (rest_timing env) at_d) (λ n. is)
+rest_is env d t when = same_leaf t (rest_timing env d) (λ n. pos 0) (λ n. pos 0) when (λ n. refl)
+
+-- ---- leaves at the control rate
+
+pub ramp_is : (env : Env) (d : ℤ) (t : Timing) → t ≡ plain_timing env.control_rate env d → leaves.leaf t (leaf_value (Ramp t.len)) ≡ ramp_sound env d
+unfolding ramp_sound leaf_value
+ramp_is env d t when = λ i. leaves.leaf (when i) (ramp_value (when i).len)
+
+pub lfo_is : (env : Env) (hz d number : ℤ) (inc : ℕ) (t : Timing) → number ≡ hz → t ≡ sustained_timing env.control_rate env d → inc ≡ increment number env.control_rate → leaves.leaf t (leaf_value (Lfo inc)) ≡ lfo_sound env hz d
+unfolding lfo_sound leaf_value
+lfo_is env hz d number inc t at_hz when at_inc =
+    let step : inc ≡ increment hz env.control_rate = at_inc ∙ ap (λ k. increment k env.control_rate) at_hz in
+    λ i. leaves.leaf (when i) (wave_value 256 (step i))
+
+-- ---- rows
+
+-- a unit that gives the sound of a generator's row gives that of the generator
+pub by_row : (g row : Generator) (env : Env) (ns : List ℤ) (t : Timing) (l : LeafOf) → g ≡ row → t ≡ leaf_time g env ns → (t ≡ leaf_time row env ns → leaves.leaf t (leaf_value l) ≡ leaf_sound row env ns) → leaves.leaf t (leaf_value l) ≡ leaf_sound g env ns
+by_row g row env ns t l is when gives = gives (when ∙ ap (λ x. leaf_time x env ns) is) ∙ ap (λ x. leaf_sound x env ns) (sym is)

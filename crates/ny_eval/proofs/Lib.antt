@@ -21,8 +21,6 @@ pub mod KindLemmas
 pub mod OperandLemmas
 pub mod InnerLemmas
 pub mod LeafLemmas
-pub mod GeneratorLemmas
-pub mod ControlLemmas
 pub mod EnvelopeLemmas
 pub mod ShapeLemmas
 pub mod EvalLemmas

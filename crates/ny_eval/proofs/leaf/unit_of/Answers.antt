@@ -1,54 +1,52 @@
-use Rattle.std.proofs.Common.{ap, refl, ◌∙◌}
+use Rattle.std.proofs.Common.{ap, ◌∙◌}
 use Rattle.ny_num.specs.Leaves.{increment, key_hz}
 use Rattle.ny_check.specs.declared.node.Generator.TheVariants as generator
 use Rattle.ny_check.specs.Families.{leaf_time, number_at}
-use Rattle.ny_eval.proofs.ControlLemmas.{ramp_is, lfo_is}
 use Rattle.ny_eval.proofs.EnvelopeLemmas.{envelope_heard, envelope_is}
-use Rattle.ny_eval.proofs.GeneratorLemmas.{by_row}
-use Rattle.ny_eval.proofs.LeafLemmas.{constant_is, osc_is, hzosc_is, noise_is, rest_is}
+use Rattle.ny_eval.proofs.LeafLemmas.{constant_is, osc_is, hzosc_is, noise_is, rest_is, ramp_is, lfo_is, by_row}
 use Rattle.ny_eval.proofs.leaf.unit_of.Goals as goal
 
 pub returns-in-Const-clause-sound : goal.returns-in-Const-clause-sound
 returns-in-Const-clause-sound c =
     let env = c.args.env.now in
     let ns = c.args.numbers.now in
-    by_row c.args.generator generator.Const env ns c.args.timing.now _ c.in-Const.is c.requires (λ when. constant_is env (number_at ns 0) (number_at ns 1) c.number_at-first.result (number_at ns 1) c.of_fix.result c.args.timing.now c.number_at-first.ensures refl when c.of_fix.ensures)
+    by_row c.args.generator generator.Const env ns c.args.timing.now _ c.in-Const.is c.requires (λ when. constant_is env (number_at ns 0) (number_at ns 1) c.number_at-first.result c.of_fix.result c.args.timing.now c.number_at-first.ensures when c.of_fix.ensures)
 
 pub returns-in-Osc-clause-sound : goal.returns-in-Osc-clause-sound
 returns-in-Osc-clause-sound c =
     let env = c.args.env.now in
     let ns = c.args.numbers.now in
-    by_row c.args.generator generator.Osc env ns c.args.timing.now _ c.in-Osc.is c.requires (λ when. osc_is env (number_at ns 0) (number_at ns 1) c.number_at-first.result (number_at ns 1) c.increment-inc.result c.of_fix-loud.result c.args.timing.now c.number_at-first.ensures refl when (c.increment-inc.ensures ∙ ap (λ h. increment h env.sound_rate) (c.key_hz.ensures ∙ ap key_hz c.key_of.ensures.value)) c.of_fix-loud.ensures)
+    by_row c.args.generator generator.Osc env ns c.args.timing.now _ c.in-Osc.is c.requires (λ when. osc_is env (number_at ns 0) (number_at ns 1) c.number_at-first.result c.increment-inc.result c.of_fix-loud.result c.args.timing.now c.number_at-first.ensures when (c.increment-inc.ensures ∙ ap (λ h. increment h env.sound_rate) (c.key_hz.ensures ∙ ap key_hz c.key_of.ensures.value)) c.of_fix-loud.ensures)
 
 pub returns-in-HzOsc-clause-sound : goal.returns-in-HzOsc-clause-sound
 returns-in-HzOsc-clause-sound c =
     let env = c.args.env.now in
     let ns = c.args.numbers.now in
-    by_row c.args.generator generator.HzOsc env ns c.args.timing.now _ c.in-HzOsc.is c.requires (λ when. hzosc_is env (number_at ns 0) (number_at ns 1) c.number_at-first.result (number_at ns 1) c.increment-inc-in-HzOsc.result c.of_fix-loud.result c.args.timing.now c.number_at-first.ensures refl when c.increment-inc-in-HzOsc.ensures c.of_fix-loud.ensures)
+    by_row c.args.generator generator.HzOsc env ns c.args.timing.now _ c.in-HzOsc.is c.requires (λ when. hzosc_is env (number_at ns 0) (number_at ns 1) c.number_at-first.result c.increment-inc-in-HzOsc.result c.of_fix-loud.result c.args.timing.now c.number_at-first.ensures when c.increment-inc-in-HzOsc.ensures c.of_fix-loud.ensures)
 
 pub returns-in-Lfo-clause-sound : goal.returns-in-Lfo-clause-sound
 returns-in-Lfo-clause-sound c =
     let env = c.args.env.now in
     let ns = c.args.numbers.now in
-    by_row c.args.generator generator.Lfo env ns c.args.timing.now _ c.in-Lfo.is c.requires (λ when. lfo_is env (number_at ns 0) (number_at ns 1) c.number_at-first.result (number_at ns 1) c.increment-inc-in-Lfo.result c.args.timing.now c.number_at-first.ensures refl when c.increment-inc-in-Lfo.ensures)
+    by_row c.args.generator generator.Lfo env ns c.args.timing.now _ c.in-Lfo.is c.requires (λ when. lfo_is env (number_at ns 0) (number_at ns 1) c.number_at-first.result c.increment-inc-in-Lfo.result c.args.timing.now c.number_at-first.ensures when c.increment-inc-in-Lfo.ensures)
 
 pub returns-in-Noise-clause-sound : goal.returns-in-Noise-clause-sound
 returns-in-Noise-clause-sound c =
     let env = c.args.env.now in
     let ns = c.args.numbers.now in
-    by_row c.args.generator generator.Noise env ns c.args.timing.now _ c.in-Noise.is c.requires (λ when. noise_is env (number_at ns 0) (number_at ns 1) c.number_at-first.result (number_at ns 1) c.seed_of-x.result c.of_fix-loud.result c.args.timing.now c.number_at-first.ensures refl when c.seed_of-x.ensures c.of_fix-loud.ensures)
+    by_row c.args.generator generator.Noise env ns c.args.timing.now _ c.in-Noise.is c.requires (λ when. noise_is env (number_at ns 0) (number_at ns 1) c.number_at-first.result c.seed_of-x.result c.of_fix-loud.result c.args.timing.now c.number_at-first.ensures when c.seed_of-x.ensures c.of_fix-loud.ensures)
 
 pub returns-in-Rest-clause-sound : goal.returns-in-Rest-clause-sound
 returns-in-Rest-clause-sound c =
     let env = c.args.env.now in
     let ns = c.args.numbers.now in
-    by_row c.args.generator generator.Rest env ns c.args.timing.now _ c.in-Rest.is c.requires (λ when. rest_is env (number_at ns 0) (number_at ns 0) c.args.timing.now _ refl when refl)
+    by_row c.args.generator generator.Rest env ns c.args.timing.now _ c.in-Rest.is c.requires (λ when. rest_is env (number_at ns 0) c.args.timing.now when)
 
 pub returns-in-Ramp-clause-sound : goal.returns-in-Ramp-clause-sound
 returns-in-Ramp-clause-sound c =
     let env = c.args.env.now in
     let ns = c.args.numbers.now in
-    by_row c.args.generator generator.Ramp env ns c.args.timing.now _ c.in-Ramp.is c.requires (λ when. ramp_is env (number_at ns 0) (number_at ns 0) c.args.timing.now refl when)
+    by_row c.args.generator generator.Ramp env ns c.args.timing.now _ c.in-Ramp.is c.requires (λ when. ramp_is env (number_at ns 0) c.args.timing.now when)
 
 pub returns-in_ok-knots-in-Pwl-clause-sound : goal.returns-in_ok-knots-in-Pwl-clause-sound
 returns-in_ok-knots-in-Pwl-clause-sound c =
