@@ -8,3 +8,4 @@ pub mod ScalarEquation
 pub mod Uses
 pub mod MeaningEquation
 pub mod Counted
+pub mod FirstFault

@@ -9,3 +9,4 @@ pub mod Families
 pub mod Parts
 pub mod Meaning
 pub mod Channels
+pub mod Occurrence

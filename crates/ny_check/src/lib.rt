@@ -9,6 +9,7 @@ mod draft;
 mod family;
 mod form;
 mod free;
+mod laws;
 mod node;
 pub mod operations;
 mod program;
@@ -17,6 +18,7 @@ mod value;
 mod write;
 
 pub use accept::{CheckFault, check, check_tree};
+pub use laws::acceptance_laws;
 pub use node::{Change, Effect, ExprId, Function, FunctionId, Generator, Node, Transformation};
 pub use ny_kernels::Op;
 pub use ny_resolve::{CheckWhy, NameId, Order, Rated, Relation};
