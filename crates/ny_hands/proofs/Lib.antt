@@ -1,0 +1,11 @@
+pub mod OptionLemmas
+pub mod HeapLemmas
+pub mod SoundLemmas
+pub mod HeardLemmas
+pub mod RateLemmas
+pub mod MarkLemmas
+pub mod HandLemmas
+pub mod ComingLemmas
+pub mod NameLemmas
+pub mod PlaceLemmas
+pub mod BeforeLemmas

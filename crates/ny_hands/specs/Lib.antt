@@ -1,0 +1,6 @@
+pub mod Calls
+pub mod Counts
+pub mod Frames
+pub mod Hands
+pub mod Made
+pub mod Ranks
