@@ -149,8 +149,10 @@ occurs_in tree f t c =
     judged : (Contains (kind_faults (refused_in tree)) f ⊎ Contains (fault_if (deep_in tree) why.TooDeep tree.play_at ++ fault_if (heavy_in tree) why.TooHeavy tree.play_at) f) → Occurs tree f
     judged (inl d) =
         let h = in_kinds (refused_in tree) f d in
-        inr (inl (ap (λ (g : Fault). g.why) h.2,
-        subst (λ (g : Fault). Contains (refusals (tree_read tree).declared (tree_read tree).play) g.at) (sym h.2) (t.told h.0 h.1).0))
+        inr (inl (
+          ap (λ (g : Fault). g.why) h.2,
+          subst (λ (g : Fault). Contains (refusals (tree_read tree).declared (tree_read tree).play) g.at) (sym h.2) (t.told h.0 h.1).0,
+        ))
     judged (inr d) = last (Contains-append_cases (fault_if (deep_in tree) why.TooDeep tree.play_at) _ f d)
 
     by : (Contains (tree_read tree).faults f ⊎ Contains (judged_faults (tree_read tree).declared (tree_read tree).play tree.play_at) f) → Occurs tree f
@@ -172,21 +174,27 @@ sooner_kind tree g None is t r = no_place g.at _ (t.none is) r.1
 sooner_kind tree g (Some p) is t r =
     let h : Fault = the_fault why.Kind p in
     let among : Contains (kind_faults (refused_in tree)) h = subst (λ (k : Option ℕ). Contains (kind_faults k) h) (sym is) (head h []) in
-    let le : p ≤ g.at = All-contains (λ (q : ℕ). p ≤ q) _ g.at (t.told p is).1 r.1 in
-    (h, in_judged tree h (Contains-append_left (kind_faults (refused_in tree)) _ h among),
-    λ f e. ap (λ (w : CheckWhy). nat_lt (rank w) (rank f.why) || nat_eq (rank w) (rank f.why) && nat_lt g.at f.at) r.0 ∙ later_place (rank why.Kind) p g.at (rank f.why) f.at le e)
+    let le : p ≤ g.at = All-contains (λ (q : ℕ). p ≤ q) _ g.at (t.told p is).1 r.1 in (
+      h,
+      in_judged tree h (Contains-append_left (kind_faults (refused_in tree)) _ h among),
+      λ f e. ap (λ (w : CheckWhy). nat_lt (rank w) (rank f.why) || nat_eq (rank w) (rank f.why) && nat_lt g.at f.at) r.0 ∙ later_place (rank why.Kind) p g.at (rank f.why) f.at le e,
+    )
 
 sooner : (tree : Tree) (g : Fault) → Told tree → Occurs tree g → HasSooner tree g
 sooner tree g t (inl c) = (g, Contains-append_left (tree_read tree).faults _ g c, λ f e. e)
 sooner tree g t (inr (inl r)) = sooner_kind tree g (refused_in tree) refl t r
 sooner tree g t (inr (inr (inl d))) =
-    let h : Fault = the_fault why.TooDeep tree.play_at in
-    (h, in_last tree h (Contains-append_left (fault_if (deep_in tree) why.TooDeep tree.play_at) _ h (if_in (deep_in tree) why.TooDeep tree.play_at (of_lt _ _ d.1))),
-    λ f e. ap (λ (x : Fault). comes_before x f) d.0 ∙ e)
+    let h : Fault = the_fault why.TooDeep tree.play_at in (
+      h,
+      in_last tree h (Contains-append_left (fault_if (deep_in tree) why.TooDeep tree.play_at) _ h (if_in (deep_in tree) why.TooDeep tree.play_at (of_lt _ _ d.1))),
+      λ f e. ap (λ (x : Fault). comes_before x f) d.0 ∙ e,
+    )
 sooner tree g t (inr (inr (inr d))) =
-    let h : Fault = the_fault why.TooHeavy tree.play_at in
-    (h, in_last tree h (Contains-append_right (fault_if (deep_in tree) why.TooDeep tree.play_at) _ h (if_in (heavy_in tree) why.TooHeavy tree.play_at (of_lt _ _ d.1))),
-    λ f e. ap (λ (x : Fault). comes_before x f) d.0 ∙ e)
+    let h : Fault = the_fault why.TooHeavy tree.play_at in (
+      h,
+      in_last tree h (Contains-append_right (fault_if (deep_in tree) why.TooDeep tree.play_at) _ h (if_in (heavy_in tree) why.TooHeavy tree.play_at (of_lt _ _ d.1))),
+      λ f e. ap (λ (x : Fault). comes_before x f) d.0 ∙ e,
+    )
 
 pub first : (tree : Tree) (f : Fault) → Told tree → fault_of tree ≡ Some f → IsFirst tree f
 unfolding fault_of

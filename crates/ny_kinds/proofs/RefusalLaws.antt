@@ -189,9 +189,10 @@ of_term (Term-F.Rate w r e) at s t a = layer (Term-F.Rate w r e.0) at s t (one_o
 of_bound : (x : Bound-F Term Bound Part) → IsJudged x.value → IsJudgedBind (roll-Bound x)
 of_bound x h =
     let k = fold-roll-Bound Formed KindedBind Kinded term_kind bound_kind part_kind x in
-    let j = fold-roll-Bound Unplaced JudgedBind Judged term_taken bound_taken part_taken x in
-    (ap (λ (b : KindedBind). b.name) k ∙ sym (ap (λ (b : JudgedBind). b.name) j),
-    λ s t a. ap (λ (b : KindedBind). b.value s) k ∙ h s t a ∙ sym (ap (λ (b : JudgedBind). found (b.value t)) j))
+    let j = fold-roll-Bound Unplaced JudgedBind Judged term_taken bound_taken part_taken x in (
+      ap (λ (b : KindedBind). b.name) k ∙ sym (ap (λ (b : JudgedBind). b.name) j),
+      λ s t a. ap (λ (b : KindedBind). b.value s) k ∙ h s t a ∙ sym (ap (λ (b : JudgedBind). found (b.value t)) j),
+    )
 
 of_part : (x : Part-F Term Bound Part) → IsJudgedTerm x.term → IsJudged (roll-Part x)
 of_part x h s t a =
@@ -308,14 +309,16 @@ least_is (x ∷ xs) p is = by (least_of xs) refl is (λ q e. least_is xs q e)
     by : (m : Option ℕ) → least_of xs ≡ m → least (Some x) m ≡ Some p → ((q : ℕ) → least_of xs ≡ Some q → Contains xs q × All (λ (r : ℕ). q ≤ r) xs)
         → Contains (x ∷ xs) p × All (λ (q : ℕ). p ≤ q) (x ∷ xs)
     by None e h before =
-        let same : x ≡ p = some_same x p h in
-        (subst (Contains (x ∷ xs)) same (head x xs),
-        All-cons (λ (q : ℕ). p ≤ q) x xs (omega (arith, same)) (subst (All (λ (q : ℕ). p ≤ q)) (sym (none_of xs e)) (All-nil (λ (q : ℕ). p ≤ q))))
+        let same : x ≡ p = some_same x p h in (
+          subst (Contains (x ∷ xs)) same (head x xs),
+          All-cons (λ (q : ℕ). p ≤ q) x xs (omega (arith, same)) (subst (All (λ (q : ℕ). p ≤ q)) (sym (none_of xs e)) (All-nil (λ (q : ℕ). p ≤ q))),
+        )
     by (Some q) e h before =
         let same : min x q ≡ p = some_same (min x q) p h in
-        let rest : Contains xs q × All (λ (r : ℕ). q ≤ r) xs = before q e in
-        (which same rest (cases_lt x q),
-        All-cons (λ (r : ℕ). p ≤ r) x xs (omega (arith, same)) (λ i d l. let each : q ≤ get_or xs i d = rest.1 i d l in omega (arith, same)))
+        let rest : Contains xs q × All (λ (r : ℕ). q ≤ r) xs = before q e in (
+          which same rest (cases_lt x q),
+          All-cons (λ (r : ℕ). p ≤ r) x xs (omega (arith, same)) (λ i d l. let each : q ≤ get_or xs i d = rest.1 i d l in omega (arith, same)),
+        )
       where
         which : min x q ≡ p → Contains xs q × All (λ (r : ℕ). q ≤ r) xs → ((x < q) ⊎ (q ≤ x)) → Contains (x ∷ xs) p
         which same rest (inl lt) = let is : x ≡ p = omega (arith, same) in subst (Contains (x ∷ xs)) is (head x xs)

@@ -9,5 +9,4 @@ ghost use Rattle.ny_kinds.specs.Refusals.{refusals};
 pub fn refusal_laws()
     ensures told { (ds : List DeclaredOf) → (play : Option PartOf) → (at : ℕ) → (text_kind ds play).fault ≡ Some at → Contains (refusals ds play) at × All (λ (other : ℕ). at ≤ other) (refusals ds play) }
     ensures none { (ds : List DeclaredOf) → (play : Option PartOf) → (text_kind ds play).fault ≡ None → refusals ds play ≡ [] }
-{
-}
+{}

@@ -47,7 +47,10 @@ fn resolve(
     put_off(&mut stack, callers)?;
     stack.push(first)?;
     while let Some(next) = stack.pop() {
-        let limits = Limits { levels: LEVELS, most };
+        let limits = Limits {
+            levels: LEVELS,
+            most,
+        };
         match judge_body(alloc, ds, table, limits, next.number, next.kinds.as_slice()) {
             Ok(found) => table.add(ds, next, found)?,
             Err(Stop::Missing(earlier, callers)) => {
@@ -80,7 +83,10 @@ pub(crate) fn root_kind(
     ensures bound { IfErr result (IsBound most) }
 {
     loop {
-        let limits = Limits { levels: LEVELS, most };
+        let limits = Limits {
+            levels: LEVELS,
+            most,
+        };
         match judge(alloc, ds, table, limits, here, e, &mut Scope::new(alloc)) {
             Ok(found) => return Ok(found),
             Err(Stop::Missing(earlier, callers)) => {

@@ -4,7 +4,6 @@ use Rattle.ny_resolve.specs.declared.term.NameId.{NameId}
 use Rattle.ny_kinds.specs.declared.kind.Kind.{Kind}
 use Rattle.ny_resolve.specs.declared.term.Part.{Part}
 use Rattle.ny_kinds.specs.Kinds.{named_kind, kind_of, scope_of}
-
 use Rattle.ny_kinds.proofs.Heights.{body-falls}
 use Rattle.ny_kinds.proofs.Joined.{binds-step, arm-Repeat}
 use Rattle.ny_kinds.proofs.judging.+judge.Goals as goal
