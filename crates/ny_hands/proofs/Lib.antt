@@ -9,3 +9,4 @@ pub mod ComingLemmas
 pub mod NameLemmas
 pub mod PlaceLemmas
 pub mod BeforeLemmas
+pub mod SpendLemmas

@@ -1,0 +1,12 @@
+pub mod FamilyLemmas
+pub mod ValueLemmas
+pub mod BlockLemmas
+pub mod MixLemmas
+pub mod WaitLemmas
+pub mod SeqLemmas
+pub mod EvaluationLemmas
+pub mod HeightLemmas
+pub mod RisingLemmas
+pub mod RisingSeqLemmas
+pub mod RisingEvaluationLemmas
+pub mod SettlingLemmas

@@ -1,0 +1,4 @@
+pub mod Evaluates
+pub mod Laws
+pub mod Heights
+pub mod Settled

@@ -1,0 +1,9 @@
+//! The trace of an evaluation: which calls of a heap evaluate an expression, by family of nodes, and what
+//! follows from them.
+//!
+//! The rules stand in `docs/DEFINITIONS.md`, "The trace of an evaluation".
+#![tactic(auto)]
+
+mod laws;
+
+pub use laws::trace_laws;
