@@ -5,10 +5,11 @@ use Rattle.ny_heap.specs.Heap.{Waiting, Node, HeapState, node_at, is_open, block
 use Rattle.ny_heap.specs.Means.{KeepsMeaning}
 use Rattle.ny_heap.specs.Reach.{HeapLaws}
 use Rattle.ny_heap.specs.Steps.{Fills, want_of, filled_node}
+use Rattle.ny_heap.specs.Wanting.{NoneWanted}
 use Rattle.ny_eval.specs.Order.{FillsInOrder, FillsWants, StopsInOrder}
 use Rattle.ny_eval.specs.Below.{ComesFrom, IsSettled, IsRank, IsRanked, Below, Drives, WantsSoFar, missing}
 use Rattle.ny_eval.proofs.BelowLemmas.{same_at, some_there, and_some, Below-none, Below-more, Below-wider}
-use Rattle.ny_eval.proofs.WantLemmas.{wanted, wanted_uses, wanted_open, missing_falls}
+use Rattle.ny_eval.proofs.WantLemmas.{wanted, wanted_uses, wanted_open, missing_falls, none_wanted_on}
 use Rattle.ny_eval.proofs.FillLemmas.{sum_with_none, Fills-drives}
 
 -- ---- what u wants
@@ -70,6 +71,11 @@ wants_more old mid new u v left x there so e laws settled drives comes keeps = r
 
     falls : (rank : ℕ → ℕ) → IsRank mid rank → rank v < rank u
     falls rank is_rank = is_rank u v (wanted_uses mid u v x here (wanted mid u v x here e))
+
+-- the inputs that u does not want it does not want later
+pub wants_on : {B : Type 0} (old mid new : HeapState B) (u v left place : ℕ) (x : Node B) → node_at old u ≡ Some x → WantsSoFar old mid u left → want_of mid u ≡ Some v → ((rank : ℕ → ℕ) → IsRank mid rank → Drives mid new v rank) → NoneWanted mid u place → NoneWanted new u place
+wants_on old mid new u v left place x there so e drives none =
+    none_wanted_on mid new so.laws u v place x so.ranked.rank so.ranked.falls (so.same ∙ there) (wanted mid u v x (so.same ∙ there) e) (drives so.ranked.rank so.ranked.falls) none
 
 pub wants_less : {B : Type 0} (old mid new : HeapState B) (u v left : ℕ) (x : Node B) → node_at old u ≡ Some x → WantsSoFar old mid u left → want_of mid u ≡ Some v → ((rank : ℕ → ℕ) → IsRank mid rank → Drives mid new v rank) → missing new u < missing mid u
 wants_less old mid new u v left x there so e drives =

@@ -9,6 +9,7 @@ use Rattle.ny_num.specs.declared.timing.Timing.{Timing}
 use Rattle.ny_heap.specs.Heap.{Reader, Kind, Node, HeapState, node_at, input_at, taken_after, is_open, blocks_of}
 use Rattle.ny_heap.specs.Reach.{Uses, Read, HeapLaws}
 use Rattle.ny_heap.specs.Steps.{lacks, wants, want_of}
+use Rattle.ny_heap.specs.Wanting.{NoneWanted}
 use Rattle.ny_eval.specs.Below.{IsRank, Continues, Drives, computed_at, lack_of, missing}
 use Rattle.ny_eval.proofs.BelowLemmas.{same_at, some_there}
 
@@ -111,3 +112,31 @@ missing_falls old new laws u v x rank ranks there w drives =
         let later = drives.below.held v unit.0 unit.1 (inr (record { user = u; higher = omega (arith, low); uses = uses })) in
         let more = computed_more old new v unit.0 later.0 laws.positive drives.below.block unit.1 later.1 later.3.timing (drives.more unit.0 later.0 unit.1 later.1) (wanted_short old laws u v x unit.0 there unit.1 w) in
         omega (arith, ap (lack_of new x) w.input, ap (lack_of old x) w.input, need_same w.reader, more, ap (computed_at old) w.of, ap (computed_at new) w.of, w.lacks)
+
+-- an input that is computed far enough stays so
+pub none_wanted_on : {B : Type 0} (old new : HeapState B) → HeapLaws old → (u v place : ℕ) (x : Node B) (rank : ℕ → ℕ) → IsRank old rank → node_at old u ≡ Some x → Wanted old x v → Drives old new v rank → NoneWanted old u place → NoneWanted new u place
+none_wanted_on {B} old new laws u v place x rank ranks there w drives none y at k less =
+    let low = ranks u v (wanted_uses old u v x there w) in
+    let here = drives.below.same u x there (omega (arith, low)) in
+    let same : x ≡ y = same_at (node_at new u) x y here.0 at in
+    subst (λ (z : Node B). lacks new z (input_at z k) ≡ false) same (each (get_or x.inputs k None) refl low (none x there k less))
+  where
+    each : (o : Option Reader) → get_or x.inputs k None ≡ o → rank v < rank u → lacks old x (get_or x.inputs k None) ≡ false → lacks new x (get_or x.inputs k None) ≡ false
+    each None e low fits = ap (lacks new x) e
+    each (Some r) e low fits = ap (lacks new x) e ∙ by_test (lacks new x (Some r)) refl
+      where
+        unit : (z : Node B) × (node_at old r.node ≡ Some z)
+        unit = some_there (node_at old r.node) (laws.finds u r.node (Read (record { unit = x; there = there; place = k; reader = r; input = e; of = refl })))
+
+        grows : computed_at old r.node ≤ computed_at new r.node
+        grows = let later = drives.below.held r.node unit.0 unit.1 (inr (record { user = u; higher = omega (arith, low); uses = Read (record { unit = x; there = there; place = k; reader = r; input = e; of = refl }) })) in computed_grows old new r.node unit.0 later.0 drives.below.block unit.1 later.1 later.3
+
+        need : taken_after new.block x.kind x.timing r.timing (x.filled + 1) ≡ taken_after old.block x.kind x.timing r.timing (x.filled + 1)
+        need = ap (λ b. taken_after b x.kind x.timing r.timing (x.filled + 1)) drives.below.block
+
+        apart : true ≡ false → ⊥
+        apart q = cc
+
+        by_test : (t : Bool) → lacks new x (Some r) ≡ t → lacks new x (Some r) ≡ false
+        by_test false is = is
+        by_test true is = absurd (apart (sym (lt-ltb (computed_at old r.node) (taken_after old.block x.kind x.timing r.timing (x.filled + 1)) (omega (arith, ltb-true _ _ is, grows, need))) ∙ (sym (ap (lacks old x) e) ∙ fits)))

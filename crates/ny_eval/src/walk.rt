@@ -29,8 +29,11 @@ fn drive_within<B>(heap: &mut Heap<B>, u: UnitId, left: u64) -> Result<(), FillF
     ensures comes { ComesFrom heap.old heap.new }
     ensures keeps { KeepsMeaning heap.old heap.new }
 {
-    while let Some(v) = heap.want(u) {
-        drive_within(heap, v, left - 1)?;
+    // Inputs that are computed far enough stay so: the search goes on from the one that was filled last.
+    let mut place = 0;
+    while let Some(v) = heap.want_from(u, place) {
+        drive_within(heap, v.unit, left - 1)?;
+        place = v.place;
     }
     heap.fill(u)
 }

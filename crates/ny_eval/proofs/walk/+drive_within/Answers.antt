@@ -3,17 +3,17 @@ use Rattle.ny_heap.specs.Heap.{is_open}
 use Rattle.ny_heap.specs.Steps.{IsSettledUnit}
 use Rattle.ny_eval.specs.Below.{ComesFrom, IsSettled, Below}
 use Rattle.ny_eval.proofs.BelowLemmas.{some_and, and_some}
-use Rattle.ny_eval.proofs.DriveLemmas.{comes_more, fill_comes, next_open, next_ranked, open_still, stops_below, stops_here, stops_apart, fills_then, wants_none, wants_more, wants_less, settled_on, fill_drives, at_ok, at_ok_some, at_err, on_err, either}
+use Rattle.ny_eval.proofs.DriveLemmas.{comes_more, fill_comes, next_open, next_ranked, open_still, stops_below, stops_here, stops_apart, fills_then, wants_none, wants_more, wants_on, wants_less, settled_on, fill_drives, at_ok, at_ok_some, at_err, on_err, either}
 use Rattle.ny_eval.proofs.walk.+drive_within.Goals as goal
 
 pub loop-v-init : goal.loop-v-init
-loop-v-init g t c = (wants_none _ _ _ c.requires.laws c.requires.settled c.requires.ranked, (0, [], (refl, refl)))
+loop-v-init g t c = (wants_none _ _ _ c.requires.laws c.requires.settled c.requires.ranked, λ x at k less. absurd (omega (arith, less)), (0, [], (refl, refl)))
 
-pub want-requires : goal.want-requires
-want-requires g t c =
+pub want_from-requires : goal.want_from-requires
+want_from-requires g t c =
     let x = some_and _ _ c.requires.open in
     let is_open_now : IsTrue (is_open c.loop-v.heap.block x.0) = open_still _ _ _ _ x.0 x.1 c.loop-v.invariant.0 x.2 in
-    record { «open» = and_some _ (λ x. IsTrue (is_open c.loop-v.heap.block x)) x.0 (c.loop-v.invariant.0.same ∙ x.1) is_open_now }
+    record { «open» = and_some _ (λ x. IsTrue (is_open c.loop-v.heap.block x)) x.0 (c.loop-v.invariant.0.same ∙ x.1) is_open_now; before = c.loop-v.invariant.1 }
 
 pub drive_within-requires : goal.drive_within-requires
 drive_within-requires g t c κs within =
@@ -31,17 +31,18 @@ loop-v-smaller g t c =
 pub loop-v-preserved : goal.loop-v-preserved
 loop-v-preserved g t c =
     let x = some_and _ _ c.requires.open in
-    let so = c.loop-v.invariant.1 in
+    let so = c.loop-v.invariant.2 in
     let walk = c.in_ok-drive_within.ensures.order in (
       wants_more _ _ _ _ _ _ x.0 x.1 c.loop-v.invariant.0 (sym c.in-Some.ensures.first) c.in_ok-drive_within.ensures.laws c.in_ok-drive_within.ensures.settled c.in_ok-drive_within.ensures.drives c.in_ok-drive_within.ensures.comes c.in_ok-drive_within.ensures.keeps,
-      (suc so.0, so.1 ++ walk.0, (c.loop-v.heap, c.in-Some.v.0.0, so.1, walk.0, so.2, sym c.in-Some.ensures.first, walk.1, refl)),
+      wants_on _ _ _ _ _ _ _ x.0 x.1 c.loop-v.invariant.0 (sym c.in-Some.ensures.first) c.in_ok-drive_within.ensures.drives c.in-Some.ensures.before,
+      (suc so.0, so.1 ++ walk.0, (c.loop-v.heap, c.in-Some.v.unit.0.0, so.1, walk.0, so.2, sym c.in-Some.ensures.first, walk.1, refl)),
     )
 
 pub returns-in_err-drive_within-clause-stops : goal.returns-in_err-drive_within-clause-stops
 returns-in_err-drive_within-clause-stops g t c =
-    let so = c.loop-v.invariant.1 in
+    let so = c.loop-v.invariant.2 in
     let stop = c.in_err-drive_within.ensures.stops in
-    on_err c.from_residual.result _ (so.1 ++ stop.0, stops_below c.args.heap.now c.loop-v.heap c.drive_within.new.heap c.args.u.0.0 c.in-Some.v.0.0 c.args.left so.0 so.1 stop.0 c.requires.ranked so.2 (sym c.in-Some.ensures.first) stop.1)
+    on_err c.from_residual.result _ (so.1 ++ stop.0, stops_below c.args.heap.now c.loop-v.heap c.drive_within.new.heap c.args.u.0.0 c.in-Some.v.unit.0.0 c.args.left so.0 so.1 stop.0 c.requires.ranked so.2 (sym c.in-Some.ensures.first) stop.1)
 
 pub returns-in_err-drive_within-clause-keeps : goal.returns-in_err-drive_within-clause-keeps
 returns-in_err-drive_within-clause-keeps g t c = λ part w means. c.in_err-drive_within.ensures.keeps part w (c.loop-v.invariant.0.keeps part w means)
@@ -73,7 +74,7 @@ returns-clause-settled g t c =
 
 pub returns-clause-order : goal.returns-clause-order
 returns-clause-order g t c =
-    let so = c.loop-v.invariant.1 in
+    let so = c.loop-v.invariant.2 in
     at_ok_some c.fill.result _ _ _ c.fill.ensures.full.1 (λ room fills. (so.1 ++ c.args.u.0.0 ∷ [], fills_then c.args.heap.now c.loop-v.heap c.fill.new.self c.args.u.0.0 c.args.left so.0 so.1 c.requires.ranked so.2 (sym c.in_default.ensures.first) room fills c.fill.ensures.laws)) c.fill.ensures.fills
 
 pub returns-clause-drives : goal.returns-clause-drives
@@ -83,7 +84,7 @@ returns-clause-drives g t c =
 
 pub returns-clause-stops : goal.returns-clause-stops
 returns-clause-stops g t c =
-    let so = c.loop-v.invariant.1 in
+    let so = c.loop-v.invariant.2 in
     at_err c.fill.result _ _ (λ failed same. (so.1 ++ [], stops_here c.args.heap.now c.loop-v.heap c.fill.new.self c.args.u.0.0 c.args.left so.0 so.1 c.requires.ranked so.2 (sym c.in_default.ensures.first) (c.fill.ensures.full.0 failed) same)) c.fill.ensures.nothing
 
 pub returns-clause-keeps : goal.returns-clause-keeps
