@@ -3,3 +3,4 @@ pub mod Earliest
 pub mod Forms
 pub mod Rates
 pub mod PartSizes
+pub mod AgainLaws

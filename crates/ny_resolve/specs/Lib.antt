@@ -6,3 +6,4 @@ pub mod Reading
 pub mod Declarations
 pub mod Keys
 pub mod Sizes
+pub mod Again
