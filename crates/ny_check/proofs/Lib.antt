@@ -9,3 +9,7 @@ pub mod Uses
 pub mod MeaningEquation
 pub mod Counted
 pub mod FirstFault
+pub mod Agreeing
+pub mod FreeNames
+pub mod Picked
+pub mod Tall

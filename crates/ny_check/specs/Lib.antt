@@ -10,3 +10,5 @@ pub mod Parts
 pub mod Meaning
 pub mod Channels
 pub mod Occurrence
+pub mod FreeNames
+pub mod Heights

@@ -14,6 +14,7 @@ mod node;
 pub mod operations;
 mod program;
 mod scalar;
+mod table_laws;
 mod value;
 mod write;
 

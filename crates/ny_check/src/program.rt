@@ -71,6 +71,13 @@ impl Program {
         }
     }
 
+    /// The law of a table's order (`docs/DEFINITIONS.md`, "Programs").
+    pub fn order_law(&self)
+        ensures ordered { IsOrdered self.now }
+    {
+        let _ = &self.nodes;
+    }
+
     /// A node of the table. The nodes that it names stand before it.
     pub fn node(&self, e: ExprId) -> &Node
         requires { e.0 < length self.now.nodes }
