@@ -5,6 +5,8 @@
 #[cfg(test)]
 mod lists;
 #[cfg(test)]
+mod long_texts;
+#[cfg(test)]
 mod maps;
 #[cfg(test)]
 mod names;

@@ -15,7 +15,7 @@ const ROOM: usize = 1_048_576;
 
 /// A kind of call of a host.
 #[derive(Clone, Copy, Debug, PartialEq, Eq)]
-pub enum Call {
+enum Call {
     Open,
     Read,
     Create,
@@ -37,9 +37,9 @@ impl fmt::Display for Call {
 
 /// The call that is to fail: its kind, and its number among those of its kind, from 1.
 #[derive(Clone, Copy, Debug)]
-pub struct Failing {
-    pub call: Call,
-    pub number: u64,
+struct Failing {
+    call: Call,
+    number: u64,
 }
 
 /// Runs a case over hosts in memory, which move one byte with each call, a few, or many, and then over
@@ -76,7 +76,7 @@ fn run_by_steps<R: Print + AllocGlobal>(rt: &R, case: &Case<'_>, step: usize) ->
 }
 
 /// How a case ends over a host.
-pub fn run_shown(
+fn run_shown(
     alloc: Global,
     case: &Case<'_>,
     step: usize,
@@ -102,7 +102,7 @@ fn failing_shown(alloc: Global, failing: Option<Failing>) -> Result<String, Allo
 }
 
 /// A host in memory that has the text of a case.
-pub fn host_of(
+fn host_of(
     alloc: Global,
     case: &Case<'_>,
     step: usize,

@@ -7,8 +7,6 @@ mod files;
 mod hosts;
 mod short_calls;
 mod shown;
-#[cfg(test)]
-mod tests;
 
 use crate::case::cases_of;
 use crate::files::run_on_files;
