@@ -7,10 +7,9 @@ use Rattle.ny_num.specs.Numbers.{sample_add}
 use Rattle.ny_num.specs.declared.rate.Rate.{Rate}
 use Rattle.ny_num.specs.declared.timing.Timing.{Timing}
 use Rattle.ny_num.specs.Sound as sounds
-use Rattle.ny_num.specs.Sound.{timing_of, sound_of, value_at}
+use Rattle.ny_num.specs.Sound.{timing_of, sound_of, value_at, spanning}
 use Rattle.ny_num.specs.Mix.{mix, mix_timing, sum_at}
 use Rattle.ny_num.specs.Resampling.{resampled}
-use Rattle.ny_num.proofs.RateLaws.{mix_timing-rate}
 use Rattle.ny_warp.specs.declared.env.Env.{Env}
 use Rattle.ny_check.specs.declared.node.ExprId.{ExprId}
 use Rattle.ny_check.specs.Code.{Code, AllBelow}
@@ -31,6 +30,11 @@ use Rattle.ny_trace.specs.Laws.{IsLawful}
 use Rattle.ny_hands.proofs.ComingLemmas.{comes_none, comes_turned, comes_made, comes_brought, timing_begin}
 use Rattle.ny_hands.proofs.NameLemmas.{bound_stable, named_kept}
 use Rattle.ny_trace.proofs.ValueLemmas.{Agree, comes_then}
+
+mix_timing-rate : (r : Rate) (ts : List Timing) → (mix_timing r ts).rate ≡ r
+unfolding mix_timing spanning
+mix_timing-rate r [] = refl
+mix_timing-rate r (t ∷ ts) = refl
 
 -- ---- lists of items
 
