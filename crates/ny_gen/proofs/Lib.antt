@@ -1,0 +1,4 @@
+pub mod Calls
+pub mod Joined
+pub mod Drawing
+pub mod Bytes
