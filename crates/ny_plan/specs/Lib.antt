@@ -1,0 +1,14 @@
+pub mod Kinds
+pub mod Rows
+pub mod Units
+pub mod Plan
+pub mod Need
+pub mod Fills
+pub mod Liveness
+pub mod Peak
+pub mod Lines
+pub mod Order
+pub mod Demand
+pub mod Held
+pub mod StandsFor
+pub mod Worked
