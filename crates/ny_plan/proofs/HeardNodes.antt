@@ -1,5 +1,5 @@
 -- What a node makes is what it means.
-use Rattle.std.proofs.Common.{◌≡◌, ℕ, ◌+◌, ◌*◌, ◌<◌, ◌≤◌, Bool, true, false, cond, List, [], ◌∷◌, ◌++◌, map, zip, length, Option, None, Some, unwrap_or, refl, sym, ap, subst, ◌∙◌, arith, ℤ, pos}
+use Rattle.std.proofs.Common.{◌≡◌, ℕ, ◌*◌, ◌<◌, ◌≤◌, Bool, true, false, cond, List, [], ◌∷◌, ◌++◌, map, zip, length, Option, None, Some, unwrap_or, refl, sym, ap, subst, ◌∙◌, arith, ℤ, pos}
 use Rattle.std.specs.List.{AllByRecursion, range_with_len}
 use Rattle.ny_num.specs.declared.rate.Rate.{Rate}
 use Rattle.ny_num.specs.declared.timing.Timing.{Timing}
@@ -37,7 +37,7 @@ use Rattle.ny_resolve.specs.Keys.{same_name}
 use Rattle.std.proofs.lemmas.List.Elements.{All-from_recursion}
 use Rattle.ny_plan.specs.Kinds.{UnitKind, Mix, kind_of_generator, kind_of_effect}
 use Rattle.ny_plan.specs.Rows.{RowSound, Input, Row, After, Step, row_at, given, and_then, each, shown, silent, input}
-use Rattle.ny_plan.specs.Units.{first, leaf_by, leaf_made, row_over, brought, paired, negated, cued, Part, parts_together, coming, next_part, parts_after, parts_in_turn, parts_in, counted_from, mixed}
+use Rattle.ny_plan.specs.Units.{leaf_by, leaf_made, row_over, brought, paired, negated, cued, Part, parts_together, coming, next_part, parts_after, parts_in_turn, parts_in, counted_from, mixed}
 use Rattle.ny_plan.specs.Order.{IsBelow, IsValueBelow, AreNamesBelow, AllRows, Leaves}
 use Rattle.ny_plan.proofs.SoundLemmas.{stop_is, timing_of-leaf_sound, timing_of-effect, none_of_no_kind}
 use Rattle.ny_plan.proofs.HeardLemmas.{heard, IsShown, heard-kept, shown-kept, Hears, hears_shown, hears_as, hears_given, join, hears_then, hears_none, hears_unit, hears_single, hears_brought, hears_placed, hears_cued, Plays, plays_cons, plays_each, whole_value, IsShownValue, hears_silent, hears_paired, hears_negated, HearsValue, hears_value_by, value-kept, wholes, AreShown, names-kept, value_low, names_low, push_shown, same_scalars}
