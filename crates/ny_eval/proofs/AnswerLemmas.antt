@@ -2,17 +2,13 @@
 use Rattle.std.proofs.Common.{◌≡◌, ◌<◌, zero, suc, ℕ, List, [], ◌∷◌, ◌++◌, All, get_or, Result, Ok, Err, IfOk, OnErr, ap, ◌∙◌, arith}
 use Rattle.ny_heap.specs.declared.sound.Sound.{Sound}
 
-pub if_one : {A E : Type 0} (r : Result A E) (P R : A → Type 0) → ((x : A) → P x → R x) → IfOk r P → IfOk r R
-if_one (Ok x) P R f p = f x p
-if_one (Err e) P R f p = tt
-
 pub if_both : {A E : Type 0} (r : Result A E) (P Q R : A → Type 0) → ((x : A) → P x → Q x → R x) → IfOk r P → IfOk r Q → IfOk r R
 if_both (Ok x) P Q R f p q = f x p q
 if_both (Err e) P Q R f p q = tt
 
-pub err_both : {A E : Type 0} (r : Result A E) (P Q R : Type 0) → (P → Q → R) → OnErr r P → OnErr r Q → OnErr r R
-err_both (Ok x) P Q R f p q = tt
-err_both (Err e) P Q R f p q = f p q
+pub err_one : {A E : Type 0} (r : Result A E) (P R : Type 0) → (P → R) → OnErr r P → OnErr r R
+err_one (Ok x) P R f p = tt
+err_one (Err e) P R f p = f p
 
 pub on_err : {A E : Type 0} (r : Result A E) (P : Type 0) → P → OnErr r P
 on_err (Ok x) P p = tt

@@ -1,78 +1,130 @@
--- What a node is, from a table of what those before it are.
-use Rattle.std.proofs.Common.{◌≡◌, ℕ, ◌+◌, ◌<◌, ◌≤◌, length, drop, get_or, Bool, true, false, List, map, ◌++◌, [], ◌∷◌, refl, sym, ap, ◌∙◌, arith, slice_index_or}
-use Rattle.std.specs.Prelude.{nat_lt, if◌then◌else◌}
+-- What is known of a node, from a table of what is known of those before it, and of its parts.
+use Rattle.std.proofs.Common.{◌≡◌, ℕ, zero, suc, ◌+◌, ◌<◌, ◌≤◌, length, drop, get_or, Bool, true, false, List, map, ◌++◌, [], ◌∷◌, refl, sym, ap, ◌∙◌, arith, slice_index_or}
+use Rattle.std.specs.Prelude.{nat_lt, ◌&&◌, if◌then◌else◌}
 use Rattle.std.specs.List.{range_with_len}
 use Rattle.std.proofs.Math.Path.{fun_ext}
 use Rattle.std.proofs.lemmas.Bool.{ltb-true, ltb-false}
 use Rattle.std.proofs.lemmas.List.{get_or_past, drop_more}
 use Rattle.std.proofs.Math.ListN.{drop_of_length-le}
 use Rattle.std.proofs.lemmas.List.FromFn.{get_or-map-range_with_len, length-map-range_with_len, map-range_with_len_more}
+use Rattle.ny_kernels.specs.declared.operation.Op.{Op}
 use Rattle.ny_check.specs.Code.{Code, node_at}
 use Rattle.ny_check.specs.Recursion.{below}
 use Rattle.ny_check.specs.declared.node.Node.{Node}
+use Rattle.ny_check.specs.declared.node.Node.TheVariants as node
+use Rattle.ny_check.specs.declared.node.Change.{Change}
+use Rattle.ny_check.specs.declared.node.Effect.{Effect}
 use Rattle.ny_check.specs.declared.node.ExprId.{ExprId}
 use Rattle.ny_check.proofs.Smaller.{by_smaller-is}
-use Rattle.ny_eval.specs.Built.{values_of, all_values, built_node, built, is_sound, is_built}
-use Rattle.ny_eval.specs.declared.built.Built.{Built}
-use Rattle.ny_eval.specs.declared.built.Built.TheVariants.{Value, Test, Sound, Unbuilt}
+use Rattle.ny_eval.specs.Built.{all_built, change_built, built_node, built, is_built}
+
+-- ---- a table
 
 -- a table of what the first nodes are, as a function of a node's number
-pub known_is : (code : Code) (n : ℕ) (known : List Built) → known ≡ map (built code) (range_with_len 0 n) → (λ m. slice_index_or known m Unbuilt) ≡ below n Unbuilt (built code)
-known_is code n known is = fun_ext (λ m. ap (λ xs. slice_index_or xs m Unbuilt) is ∙ at m)
+pub known_is : (code : Code) (n : ℕ) (known : List Bool) → known ≡ map (built code) (range_with_len 0 n) → (λ m. slice_index_or known m false) ≡ below n false (built code)
+known_is code n known is = fun_ext (λ m. ap (λ xs. slice_index_or xs m false) is ∙ at m)
   where
-    at : (m : ℕ) → slice_index_or (map (built code) (range_with_len 0 n)) m Unbuilt ≡ (if nat_lt m n then built code m else Unbuilt)
+    at : (m : ℕ) → slice_index_or (map (built code) (range_with_len 0 n)) m false ≡ (if nat_lt m n then built code m else false)
     at m = by_test (nat_lt m n) refl
       where
-        by_test : (b : Bool) → nat_lt m n ≡ b → slice_index_or (map (built code) (range_with_len 0 n)) m Unbuilt ≡ (if b then built code m else Unbuilt)
-        by_test true e = get_or-map-range_with_len (built code) 0 n m m Unbuilt (ltb-true m n e) (omega arith)
-        by_test false e = get_or_past (map (built code) (range_with_len 0 n)) m Unbuilt (omega (arith, ltb-false m n e, length-map-range_with_len (built code) 0 n))
+        by_test : (b : Bool) → nat_lt m n ≡ b → slice_index_or (map (built code) (range_with_len 0 n)) m false ≡ (if b then built code m else false)
+        by_test true e = get_or-map-range_with_len (built code) 0 n m m false (ltb-true m n e) (omega arith)
+        by_test false e = get_or_past (map (built code) (range_with_len 0 n)) m false (omega (arith, ltb-false m n e, length-map-range_with_len (built code) 0 n))
 
-pub one_more : (code : Code) (n : ℕ) (known : List Built) → known ≡ map (built code) (range_with_len 0 n) → built_node (node_at code n) (λ m. slice_index_or known m Unbuilt) ≡ built code n
+pub one_more : (code : Code) (n : ℕ) (known : List Bool) → known ≡ map (built code) (range_with_len 0 n) → built_node (node_at code n) (λ m. slice_index_or known m false) ≡ built code n
 unfolding built
-one_more code n known is = ap (built_node (node_at code n)) (known_is code n known is) ∙ sym (by_smaller-is Unbuilt (λ e rec. built_node (node_at code e) rec) n)
+one_more code n known is = ap (built_node (node_at code n)) (known_is code n known is) ∙ sym (by_smaller-is false (λ e rec. built_node (node_at code e) rec) n)
 
--- what a node is that was looked at over a slice of the table
-looked_up : (code : Code) (n : ℕ) (known seen : List Built) (at : Node) (made : Built) → seen ≡ known → at ≡ node_at code n → known ≡ map (built code) (range_with_len 0 n) → made ≡ built_node at (λ m. slice_index_or seen m Unbuilt) → made ≡ built code n
+-- what is known of a node that was looked at over a slice of the table
+looked_up : (code : Code) (n : ℕ) (known seen : List Bool) (at : Node) (made : Bool) → seen ≡ known → at ≡ node_at code n → known ≡ map (built code) (range_with_len 0 n) → made ≡ built_node at (λ m. slice_index_or seen m false) → made ≡ built code n
 looked_up code n known seen at made same there is e =
-    e ∙ (λ i. built_node (there i) (λ m. slice_index_or (same i) m Unbuilt)) ∙ one_more code n known is
+    e ∙ (λ i. built_node (there i) (λ m. slice_index_or (same i) m false)) ∙ one_more code n known is
 
 -- the table with one node more
-pub one_more_known : (code : Code) (n : ℕ) (known seen : List Built) (at : Node) (next : Built) (more : List Built) → more ≡ known ++ next ∷ [] → seen ≡ known → at ≡ node_at code n → known ≡ map (built code) (range_with_len 0 n) → next ≡ built_node at (λ m. slice_index_or seen m Unbuilt) → more ≡ map (built code) (range_with_len 0 (n + 1))
+pub one_more_known : (code : Code) (n : ℕ) (known seen : List Bool) (at : Node) (next : Bool) (more : List Bool) → more ≡ known ++ next ∷ [] → seen ≡ known → at ≡ node_at code n → known ≡ map (built code) (range_with_len 0 n) → next ≡ built_node at (λ m. slice_index_or seen m false) → more ≡ map (built code) (range_with_len 0 (n + 1))
 one_more_known code n known seen at next more grown same there is made =
     grown ∙ (λ i. is i ++ looked_up code n known seen at next same there is made i ∷ []) ∙ sym (map-range_with_len_more (built code) 0 n n (omega arith))
 
-pub is_built-from : (code : Code) (n : ℕ) (known seen : List Built) (at : Node) (made : Built) → record { 0 = n } ≡ code.play → seen ≡ known → at ≡ node_at code n → known ≡ map (built code) (range_with_len 0 n) → made ≡ built_node at (λ m. slice_index_or seen m Unbuilt) → is_sound made ≡ is_built code
+pub is_built-from : (code : Code) (n : ℕ) (known seen : List Bool) (at : Node) (made : Bool) → record { 0 = n } ≡ code.play → seen ≡ known → at ≡ node_at code n → known ≡ map (built code) (range_with_len 0 n) → made ≡ built_node at (λ m. slice_index_or seen m false) → made ≡ is_built code
 unfolding is_built
-is_built-from code n known seen at made play same there is e =
-    ap is_sound (looked_up code n known seen at made same there is e ∙ ap (λ (x : ExprId). built code x.0) play)
+is_built-from code n known seen at made play same there is e = looked_up code n known seen at made same there is e ∙ ap (λ (x : ExprId). built code x.0) play
 
--- ---- numbers one after another
+-- ---- one after another
 
 -- it does not matter which comes first
-values_swap : (a : Built) (es : List ExprId) (known : ℕ → Built) (made : Built) → values_of a (all_values es known made) ≡ all_values es known (values_of a made)
-values_swap a [] known made = refl
-values_swap a (e ∷ es) known made = two a (known e.0) (all_values es known made) ∙ ap (values_of (known e.0)) (values_swap a es known made)
+built_swap : (a : Bool) (es : List ExprId) (known : ℕ → Bool) (more : Bool) → (a && all_built es known more) ≡ all_built es known (a && more)
+built_swap a [] known more = refl
+built_swap a (e ∷ es) known more = two a (known e.0) (all_built es known more) ∙ ap (λ b. known e.0 && b) (built_swap a es known more)
   where
-    two : (a b made : Built) → values_of a (values_of b made) ≡ values_of b (values_of a made)
-    two Value b made = refl
-    two Test Value made = refl
-    two Test Test made = refl
-    two Test Sound made = refl
-    two Test Unbuilt made = refl
-    two Sound Value made = refl
-    two Sound Test made = refl
-    two Sound Sound made = refl
-    two Sound Unbuilt made = refl
-    two Unbuilt Value made = refl
-    two Unbuilt Test made = refl
-    two Unbuilt Sound made = refl
-    two Unbuilt Unbuilt made = refl
+    two : (a b more : Bool) → (a && (b && more)) ≡ (b && (a && more))
+    two true true more = refl
+    two true false more = refl
+    two false true more = refl
+    two false false more = refl
 
-pub next_value : (es : List ExprId) (i : ℕ) (d : ExprId) (known : ℕ → Built) (k found more all : Built) → i < length es → k ≡ known (get_or es i d).0 → more ≡ values_of k found → all_values (drop i es) known found ≡ all → all_values (drop (i + 1) es) known more ≡ all
-next_value es i d known k found more all h is made so =
-    ap (all_values (drop (i + 1) es) known) (made ∙ ap (λ b. values_of b found) is)
-    ∙ (sym (values_swap (known (get_or es i d).0) (drop (i + 1) es) known found)
-    ∙ (sym (ap (λ l. all_values l known found) (drop_more es i d h)) ∙ so))
+pub next_built : (es : List ExprId) (i : ℕ) (d : ExprId) (known : ℕ → Bool) (k found more all : Bool) → i < length es → k ≡ known (get_or es i d).0 → more ≡ (k && found) → all_built (drop i es) known found ≡ all → all_built (drop (i + 1) es) known more ≡ all
+next_built es i d known k found more all h is made so =
+    ap (all_built (drop (i + 1) es) known) (made ∙ ap (λ b. b && found) is)
+    ∙ (sym (built_swap (known (get_or es i d).0) (drop (i + 1) es) known found)
+    ∙ (sym (ap (λ l. all_built l known found) (drop_more es i d h)) ∙ so))
 
-pub no_value : (es : List ExprId) (i : ℕ) (known : ℕ → Built) (found all : Built) → length es ≤ i → all_values (drop i es) known found ≡ all → found ≡ all
-no_value es i known found all h so = sym (ap (λ l. all_values l known found) (drop_of_length-le es h)) ∙ so
+pub all_done : (es : List ExprId) (i : ℕ) (known : ℕ → Bool) (found all : Bool) → length es ≤ i → all_built (drop i es) known found ≡ all → found ≡ all
+all_done es i known found all h so = sym (ap (λ l. all_built l known found) (drop_of_length-le es h)) ∙ so
+
+pub play_built : (code : Code) → is_built code ≡ true → built code code.play.0 ≡ true
+unfolding is_built
+play_built code builds = builds
+
+-- ---- the parts of a node that can be played
+
+pub both_true : (a b : Bool) → (a && b) ≡ true → (a ≡ true) × (b ≡ true)
+both_true true b e = (refl, e)
+both_true false b e = cc
+
+pub more_true : (es : List ExprId) (known : ℕ → Bool) (more : Bool) → all_built es known more ≡ true → more ≡ true
+more_true [] known more e = e
+more_true (x ∷ es) known more e = more_true es known more (both_true (known x.0) (all_built es known more) e).1
+
+pub not_built : {A : Type 0} → false ≡ true → A
+not_built e = absurd (no e)
+  where
+    no : false ≡ true → ⊥
+    no e = cc
+
+-- what is known of a part, from below its whole
+pub part_built : (n m : ℕ) (f : ℕ → Bool) → below n false f m ≡ true → (m < n) × (f m ≡ true)
+part_built n m f e = by_test (nat_lt m n) refl e
+  where
+    by_test : (b : Bool) → nat_lt m n ≡ b → (if b then f m else false) ≡ true → (m < n) × (f m ≡ true)
+    by_test true low is = (ltb-true m n low, is)
+    by_test false low is = not_built is
+
+module _ (code : Code) (e : ℕ) where
+  pub built_at : (at : Node) → node_at code e ≡ at → built code e ≡ true → built_node at (below e false (built code)) ≡ true
+  unfolding built
+  built_at at is builds = sym (by_smaller-is false (λ n rec. built_node (node_at code n) rec) e ∙ ap (λ n. built_node n (below e false (built code))) is) ∙ builds
+
+  module _ (here : Node) (found : here ≡ node_at code e) (builds : built code e ≡ true) where
+    pub pair_parts : (op : Op) (a b : ExprId) → here ≡ node.Pair op a b → (built code a.0 ≡ true) × (built code b.0 ≡ true)
+    pair_parts op a b is =
+        let both = both_true (below e false (built code) a.0) (below e false (built code) b.0) (built_at (node.Pair op a b) (sym found ∙ is) builds) in
+        ((part_built e a.0 (built code) both.0).1, (part_built e b.0 (built code) both.1).1)
+
+    pub sign_part : (a : ExprId) → here ≡ node.Neg a → built code a.0 ≡ true
+    sign_part a is = (part_built e a.0 (built code) (built_at (node.Neg a) (sym found ∙ is) builds)).1
+
+    pub effect_part : (w : Effect) (a : ExprId) (es : List ExprId) → here ≡ node.Effect w a es → built code a.0 ≡ true
+    effect_part w a es is = (part_built e a.0 (built code) (more_true es (below e false (built code)) (below e false (built code) a.0) (built_at (node.Effect w a es) (sym found ∙ is) builds))).1
+
+    pub choice_part : (c a b : ExprId) (t : Bool) → here ≡ node.If c a b → built code (if t then a.0 else b.0) ≡ true
+    choice_part c a b t is = by_choice t
+      where
+        parts : (below e false (built code) c.0 ≡ true) × ((below e false (built code) a.0 && below e false (built code) b.0) ≡ true)
+        parts = both_true (below e false (built code) c.0) (below e false (built code) a.0 && below e false (built code) b.0) (built_at (node.If c a b) (sym found ∙ is) builds)
+
+        by_choice : (t : Bool) → built code (if t then a.0 else b.0) ≡ true
+        by_choice true = (part_built e a.0 (built code) (both_true (below e false (built code) a.0) (below e false (built code) b.0) parts.1).0).1
+        by_choice false = (part_built e b.0 (built code) (both_true (below e false (built code) a.0) (below e false (built code) b.0) parts.1).1).1
+
+    pub change_part : (c : Change) (a : ExprId) → here ≡ node.Change c a → built code a.0 ≡ true
+    change_part c a is = (part_built e a.0 (built code) (both_true (change_built c (below e false (built code))) (below e false (built code) a.0) (built_at (node.Change c a) (sym found ∙ is) builds)).1).1

@@ -1,5 +1,9 @@
 -- A channel that was just made is played from its first sample on.
-use Rattle.std.proofs.Common.{◌≡◌, ◌⊎◌, inl, inr, ℕ, ◌+◌, ◌*◌, ◌<◌, ◌≤◌, true, List, [], ◌∷◌, ◌++◌, map, length, sum, Some, refl, sym, ap, subst, ◌∙◌, arith}
+use Rattle.std.proofs.Common.{◌≡◌, ℕ, zero, suc, ◌+◌, ◌*◌, ◌<◌, ◌≤◌, ◌==◌, Bool, true, false, if◌then◌else◌, List, [], ◌∷◌, ◌++◌, map, length, sum, slice_index, Option, None, Some, refl, sym, ap, subst, ◌∙◌, arith}
+use Rattle.std.specs.Prelude.{nat_lt, ◌&&◌}
+use Rattle.std.proofs.lemmas.Bool.{eqb-true}
+use Rattle.std.specs.List.{fold}
+use Rattle.std.specs.Option.{option_map_or}
 use Rattle.ny_num.specs.declared.timing.Timing.{Timing}
 use Rattle.ny_num.specs.declared.rate.Rate.{Rate}
 use Rattle.ny_num.specs.Mix as mixes
@@ -9,64 +13,42 @@ use Rattle.ny_num.specs.Resampling.{resampled}
 use Rattle.ny_num.specs.Sound.{IsTiming, timing_of, value_at, sound_of, spanning}
 use Rattle.ny_warp.specs.declared.env.Env.{Env}
 use Rattle.ny_warp.specs.Environment.{opening}
+use Rattle.ny_check.specs.declared.node.Node.{Node as NodeOf}
+use Rattle.ny_check.specs.declared.node.Node.TheVariants as node
 use Rattle.ny_check.specs.declared.node.ExprId.{ExprId}
-use Rattle.ny_check.specs.Code.{Code}
-use Rattle.ny_check.specs.Meaning.{meaning}
-use Rattle.ny_check.specs.Channels.{channel_at, channels}
-use Rattle.ny_heap.specs.Heap.{Channel, Node, HeapState, node_at, list_of}
-use Rattle.ny_heap.specs.Means.{Parts, Whole, Means, KeepsMeaning, heard, input_sound}
+use Rattle.ny_check.specs.Code.{Code, node_at as node_in, IsBelow, IsOrdered}
+use Rattle.ny_check.specs.Values.{scalars_of, test_of}
+use Rattle.ny_check.specs.Recursion.{below, turns, by_smaller}
+use Rattle.ny_check.specs.Meaning.{Bound, meaning, sound_node}
+use Rattle.ny_check.specs.Channels.{Plays, plays_node, played, channel_at, channels}
+use Rattle.ny_check.proofs.Smaller.{below-at, by_smaller-is}
+use Rattle.ny_check.proofs.MeaningEquation.{meaning-is}
+use Rattle.ny_heap.specs.Heap.{Channel, Node, HeapState, node_at, list_of, place_of}
+use Rattle.ny_heap.specs.Means.{Parts, Whole, Means, NodeMeans, heard, input_sound, captured_sound, parts_from, all_inputs, stop_after, unit_value}
 use Rattle.ny_heap.specs.Reach.{HeapLaws, IsTrimmed}
-use Rattle.ny_heap.specs.Steps.{AreHeld, IsMixOf, Makes, MakesMeaning, reader_of, sounds_of, without_sounds}
+use Rattle.ny_heap.specs.Steps.{AreHeld, IsMixOf, Makes, MakesMeaning, new_node, reader_of, sounds_of, without_sounds}
 use Rattle.ny_heap.specs.declared.sound.Sound.{Sound}
-use Rattle.ny_eval.specs.Below.{IsRank}
-use Rattle.ny_eval.specs.Built.{is_built}
-use Rattle.ny_eval.specs.Opened.{IsEmpty, AreOpened}
-use Rattle.ny_eval.specs.Playing.{IsPlaying}
-use Rattle.ny_eval.specs.Turns.{Rises, Turns, IsAsBefore, arrival, Came, Replaces}
+use Rattle.ny_hands.specs.declared.branch.Branch.{Branch}
+use Rattle.ny_hands.specs.Calls.{MakesUnit, Brings}
+use Rattle.ny_hands.specs.Frames.{Names, part_is, sound_at}
+use Rattle.ny_hands.specs.Hands.{marks_at, mark_in, mark_of, item, Hand, Comes}
+use Rattle.ny_hands.proofs.OptionLemmas.{none_some, same_at, some_same}
+use Rattle.ny_hands.proofs.HeapLemmas.{Length, Empty, Long, length_of}
+use Rattle.ny_hands.proofs.BeforeLemmas.{some_mark}
+use Rattle.ny_hands.proofs.HandLemmas.{are_held, marks_there}
+use Rattle.ny_hands.proofs.SoundLemmas.{heard_is}
+use Rattle.ny_hands.proofs.ComingLemmas.{comes_made, comes_brought, timing_begin}
+use Rattle.ny_trace.specs.Evaluates.{Evaluates}
+use Rattle.ny_trace.specs.Heights.{Ranks, Stands}
+use Rattle.ny_trace.proofs.HeightLemmas.{step_made, step_brought}
+use Rattle.ny_eval.specs.Below.{IsSettled}
+use Rattle.ny_eval.specs.Built.{built_node, built, is_built}
+use Rattle.ny_eval.specs.Opened.{IsEmpty, AreOpened, stack_of, height_of}
+use Rattle.ny_eval.specs.Playing.{IsHeard, IsPulled, IsPlaying}
 use Rattle.ny_eval.proofs.AnswerLemmas.{all_one}
 use Rattle.ny_eval.proofs.BelowLemmas.{user_there}
-use Rattle.ny_eval.proofs.KindLemmas.{is_built_sound, played_one}
-use Rattle.ny_eval.proofs.MadeLemmas.{spending, given_up, nothing_left, made_comes}
-use Rattle.ny_eval.proofs.SoundLemmas.{heard_is, timing_of-sound_of}
-use Rattle.ny_eval.proofs.SpentLemmas.{none_some}
-use Rattle.ny_eval.proofs.TurnLemmas.{came_one, came_turns, came_wider}
-
-no_lists : Whole
-no_lists = record { samples = λ v. []; owed = λ v. [] }
-
-empty_means : {B : Type 0} (h : HeapState B) (part : Parts B) (w : Whole) → IsEmpty h → Means part h w
-empty_means h part w empty v x at = absurd (none_some (node_at h v) x (empty.none v) at)
-
-empty_rank : {B : Type 0} (h : HeapState B) → IsEmpty h → IsRank h (λ v. 0)
-empty_rank h empty u v uses = let x = user_there h u v uses in absurd (none_some (node_at h u) x.0 (empty.none u) x.1)
-
-len_of : (t : Timing) (m : sounds.Sound) → t ≡ timing_of m → t.len ≡ length m.samples
-unfolding timing_of
-len_of t m is = ap (λ (u : Timing). u.len) is
-
--- where there was no unit, the sound that comes is played alone
-pub turn_plays : {B : Type 0} (old new : HeapState B) (s : Sound) (height left : ℕ) (m : sounds.Sound) → IsEmpty old → height < left → Turns old new s height m → IsPlaying new s m.samples 0 0 left
-turn_plays {B} old new s height left m empty low turn = record {
-  laws = turn.laws;
-  settled = turn.settled (λ v x at. absurd (none_some (node_at old v) x (empty.none v) at));
-  held = turn.fresh.held;
-  len = len_of s.timing m turn.timing;
-  place = turn.fresh.begins ∙ omega arith;
-  pulled = λ n is.
-      let x = turn.fresh.unfilled n is in
-      record { unit = x.unit; there = x.there; shown = x.shown; done = x.done; only = ap sum x.marks; ranked = record { rank = r.later; falls = r.falls; within = omega (arith, r.low n x.unit (empty.none n) x.there, low) } };
-  alone = λ v y at marked. by_reader v y (turn.outside v y at marked);
-  heard = λ part.
-      let l = turn.means part no_lists (empty_means old part no_lists empty) in
-      record { whole = l.0.later; means = l.0.means; samples = ap (λ (x : sounds.Sound). x.samples) l.1 };
-}
-  where
-    r : Rises old new (λ v. 0) (height + 1)
-    r = turn.rises (λ v. 0) (empty_rank old empty)
-
-    by_reader : (v : ℕ) (y : Node B) → (node_at old v ≡ Some y) ⊎ (list_of s ≡ Some v) → list_of s ≡ Some v
-    by_reader v y (inl was) = absurd (none_some (node_at old v) y (empty.none v) was)
-    by_reader v y (inr is) = is
+use Rattle.ny_eval.proofs.BuiltLemmas.{not_built, both_true, part_built, built_at}
+use Rattle.ny_eval.proofs.PlayedLemmas.{played_lawful, played_rising, played_quiet, settled_made, settled_brought}
 
 -- ---- the unit
 
@@ -95,58 +77,198 @@ channel_made a t xs when list bounds =
       ends = all_one (λ p. p.timing.start + p.timing.len ≤ t.start + t.len) a (omega (arith, start, len));
     })
 
-pub channel_turns : {B : Type 0} (old mid new : HeapState B) (a s : Sound) (height bound : ℕ) (m : sounds.Sound) (t : Timing) (xs : List Sound) → height ≤ bound → Came old mid (arrival a m height ∷ []) (bound + 1) → t ≡ channel_timing a.timing → xs ≡ a ∷ [] → IsTiming t → HeapLaws new → Makes mid new Channel t xs [] (xs ++ []) s → MakesMeaning mid new Channel t xs [] s → Turns old new s bound (mixes.channel m)
-unfolding mixes.channel
-channel_turns {B} old mid new a s height bound m t xs within came when list bounds laws_new makes meaning =
-    came_turns old new s (mixes.channel m) (height + 1) bound
-    (made_comes old mid new Channel t (arrival a m height ∷ []) [] s height (bound + 1) (mixes.channel m) (spending old mid (arrival a m height ∷ []) [] (bound + 1) came) (omega arith, tt) laws_new bounds
-    (subst (λ ys. Makes mid new Channel t ys [] (ys ++ []) s) list makes) (omega (arith, within))
-    (subst (λ ys. MakesMeaning mid new Channel t ys [] s) list meaning)
-    (when_m ∙ sym (timing_of-sound_of (channel_timing (timing_of m)) (value_at m)))
-    (λ part w are.
-    let value : (k : ℕ) → heard (input_sound w.samples (reader_of a)) k ≡ value_at m k = λ k. heard_is w a k ∙ ap (λ x. value_at x k) are.0 in
-    λ i. sound_of (when_m i) (λ k. value k i)))
-  where
-    when_m : t ≡ channel_timing (timing_of m)
-    when_m = when ∙ ap channel_timing came.here.0.timing
-
 -- it is made of one sound, and none waits
 pub held_alone : {A B : Type 0} (h : HeapState B) (a : Sound) (xs : List Sound) (f : A → B × List Sound) (ws : List A) → xs ≡ a ∷ [] → ws ≡ [] → AreHeld h (a ∷ []) → AreHeld h (xs ++ sounds_of (map f ws))
 held_alone h a xs f ws list none held = subst (λ ys. AreHeld h (ys ++ sounds_of (map f ws))) (sym list) (subst (λ us. AreHeld h (a ∷ sounds_of (map f us))) (sym none) held)
 
--- over what is played, once that was brought to the rate
-pub channel_over : {B : Type 0} (old part_heap mid new : HeapState B) (p a s : Sound) (height : ℕ) (rate : Rate) (m : sounds.Sound) (t : Timing) (xs : List Sound) → HeapLaws old → Turns old part_heap p height m → Replaces part_heap mid p a 1 (resampled rate) → t ≡ channel_timing a.timing → xs ≡ a ∷ [] → IsTiming t → HeapLaws new → Makes mid new Channel t xs [] (xs ++ []) s → MakesMeaning mid new Channel t xs [] s → Turns old new s (height + 2) (mixes.channel (resampled rate m))
-channel_over old part_heap mid new p a s height rate m t xs laws turn replaces when list bounds laws_new makes meaning =
-    channel_turns old mid new a s (height + 1 + 1) (height + 2) (resampled rate m) t xs (omega arith)
-    (replaces old [] (height + 1) (height + 2 + 1) m (omega arith) (came_wider old part_heap (arrival p m (height + 1) ∷ []) (height + 1) (height + 2 + 1) (omega arith) (came_one old part_heap p height m laws turn)))
-    when list bounds laws_new makes meaning
+pub channel_unit : {B : Type 0} (old new : HeapState B) (t : Timing) (a : Sound) (xs : List Sound) (s : Sound) → xs ≡ a ∷ [] → HeapLaws new → IsTiming t → Makes old new Channel t xs [] (xs ++ []) s → MakesMeaning old new Channel t xs [] s → MakesUnit old new Channel t (a ∷ []) [] (a ∷ []) s
+channel_unit old new t a xs s list laws bounds makes meaning =
+    subst (λ ys. MakesUnit old new Channel t ys [] (ys ++ []) s) list (record { laws = laws; bounds = bounds; makes = makes; meaning = meaning })
 
--- where memory is missing for the channel, all is as before
-pub channel_refused : {B : Type 0} (old part_heap mid new : HeapState B) (p a : Sound) (height : ℕ) (rate : Rate) (m : sounds.Sound) (xs : List Sound) → HeapLaws old → Turns old part_heap p height m → Replaces part_heap mid p a 1 (resampled rate) → xs ≡ a ∷ [] → HeapLaws new → IsTrimmed (without_sounds mid (xs ++ [])) new → KeepsMeaning mid new → IsAsBefore old new
-channel_refused old part_heap mid new p a height rate m xs laws turn replaces list laws_new trimmed keeps =
-    nothing_left old new (height + 2 + 1)
-    (given_up old mid new (arrival a (resampled rate m) (height + 1 + 1) ∷ []) [] (height + 2 + 1)
-    (replaces old [] (height + 1) (height + 2 + 1) m (omega arith) (came_wider old part_heap (arrival p m (height + 1) ∷ []) (height + 1) (height + 2 + 1) (omega arith) (came_one old part_heap p height m laws turn)))
-    laws_new (subst (λ ys. IsTrimmed (without_sounds mid (ys ++ [])) new) list trimmed) keeps)
+-- ---- what is played
+
+-- what an expression that can be played plays is one sound
+plays_one : (code : Code) (n : ℕ) (rec : ℕ → Plays) (known : ℕ → Bool) (env : Env) (bound : Bound) → ((m : ℕ) → known m ≡ true → (m < n) × (rec m env bound ≡ meaning code m env bound ∷ [])) → (at : NodeOf) → IsBelow code.functions n at → node_in code n ≡ at → built_node at known ≡ true → plays_node code n at rec env bound ≡ meaning code n env bound ∷ []
+plays_one code n rec known env bound one (node.If c a b) under is e =
+    let both = both_true (known a.0) (known b.0) (both_true (known c.0) (known a.0 && known b.0) e).1 in
+    let meant : meaning code n env bound ≡ (if test_of code c (scalars_of bound) then meaning code a.0 env bound else meaning code b.0 env bound) =
+    meaning-is code n env bound (subst (λ x. IsBelow code.functions n x) (sym is) under) ∙ ap (λ (x : NodeOf). sound_node code x (meaning code) env bound) is in
+    chosen (test_of code c (scalars_of bound)) (rec a.0 env bound) (rec b.0 env bound) (meaning code a.0 env bound) (meaning code b.0 env bound) (one a.0 both.0).1 (one b.0 both.1).1 ∙ ap (λ s. s ∷ []) (sym meant)
+  where
+    chosen : (t : Bool) (xs ys : List sounds.Sound) (x y : sounds.Sound) → xs ≡ x ∷ [] → ys ≡ y ∷ [] → (if t then xs else ys) ≡ (if t then x else y) ∷ []
+    chosen true xs ys x y p q = p
+    chosen false xs ys x y p q = q
+plays_one code n rec known env bound one (node.Vector es) under is e = not_built e
+plays_one code n rec known env bound one (node.Call f es) under is e = not_built e
+plays_one code n rec known env bound one (node.Block bs v) under is e = not_built e
+plays_one code n rec known env bound one _ under is e = refl
+
+pub played_one : (code : Code) → IsOrdered code → (turns n : ℕ) (env : Env) (bound : Bound) → n < turns → n < length code.nodes → built code n ≡ true → played code n env bound ≡ meaning code n env bound ∷ []
+unfolding played
+played_one code ordered zero n env bound less inside builds = absurd (omega (arith, less))
+played_one code ordered (suc turns) n env bound less inside builds =
+    let none : Plays = λ from names. [] in
+    ap (λ (g : Plays). g env bound) (by_smaller-is none (λ e rec. plays_node code e (node_in code e) rec) n)
+    ∙ plays_one code n (below n none (played code)) (below n false (built code)) env bound
+    (λ m is.
+    let part = part_built n m (built code) is in
+    (part.0, ap (λ (g : Plays). g env bound) (below-at n m none (played code) part.0) ∙ played_one code ordered turns m env bound (omega (arith, part.0, less)) (omega (arith, part.0, inside)) part.1))
+    (node_in code n) (ordered.each n inside) refl (built_at code n (node_in code n) refl builds)
+-- ---- where nothing waits, it does not matter what the parts that wait are
+
+means_any : {B : Type 0} (p q : Parts B) (h : HeapState B) (w : Whole) → IsSettled h → Means p h w → Means q h w
+means_any {B} p q h w settled means v x at =
+    let m = means v x at in
+    record { len = m.len; owed = m.owed; kept = m.kept; rest = λ k from within. m.rest k from within ∙ ap (λ ss. unit_value x.kind x.timing x.memory (x.timing.start + x.filled * h.block) ss (x.timing.start + k)) (same (settled v x at).1) }
+  where
+    same : x.waiting ≡ [] → all_inputs p w v x ≡ all_inputs q w v x
+    same none = ap (λ ss. map (input_sound w.samples) x.inputs ++ (map Some (w.owed v) ++ map Some ss))
+        (ap (parts_from p w.samples x.timing.rate (stop_after x.last_stop (w.owed v))) none ∙ sym (ap (parts_from q w.samples x.timing.rate (stop_after x.last_stop (w.owed v))) none))
+
+-- ---- a heap without units
+
+no_lists : Whole
+no_lists = record { samples = λ v. []; owed = λ v. [] }
+
+module _ (old : HeapState Branch) (empty : IsEmpty old) where
+  empty_means : (part : Parts Branch) (w : Whole) → Means part old w
+  empty_means part w v x at = absurd (none_some (node_at old v) x (empty.none v) at)
+
+  empty_settled : IsSettled old
+  empty_settled v x at = absurd (none_some (node_at old v) x (empty.none v) at)
+
+  empty_ranks : Ranks stack_of old (λ v. 0)
+  empty_ranks = record {
+    falls = λ u v uses. let x = user_there old u v uses in absurd (none_some (node_at old u) x.0 (empty.none u) x.1);
+    room = λ u x i p at waits. absurd (none_some (node_at old u) x (empty.none u) at);
+  }
+
+  -- a sound outside reads the one list that was made
+  alone_at : (new : HeapState Branch) (s : Sound) → Hand old new (s ∷ []) → (v : ℕ) (y : Node Branch) → node_at new v ≡ Some y → 0 < sum y.outside → list_of s ≡ Some v
+  alone_at new s hand v y at some = by_mark (some_mark y.outside some).0 (some_mark y.outside some).1
+    where
+      none_before : (j : ℕ) → marks_at old v j ≡ 0
+      none_before j = ap (λ o. option_map_or (λ (x : Node Branch). slice_index x.outside j) o 0) (empty.none v)
+
+      read_by : (o : Option ℕ) (j : ℕ) → 0 < mark_in o v j → o ≡ Some v
+      read_by None j e = absurd (omega (arith, e))
+      read_by (Some n) j e = by_number (n == v) refl e
+        where
+          by_number : (b : Bool) → (n == v) ≡ b → 0 < (if b then (if j == 0 then 1 else 0) else 0) → Some n ≡ Some v
+          by_number true is e = ap Some (eqb-true n v is)
+          by_number false is e = absurd (omega (arith, e))
+
+      by_mark : (j : ℕ) → 0 < slice_index y.outside j → list_of s ≡ Some v
+      by_mark j one = read_by (list_of s) j (omega (arith, one, marks_there new v y j at, hand.marks v j, none_before j))
+
+-- ---- the channel
+
+len_of : (t : Timing) (m : sounds.Sound) → timing_of m ≡ t → t.len ≡ length m.samples
+unfolding timing_of
+len_of t m is = sym (ap (λ (u : Timing). u.len) is)
+
+-- over what is played, which comes to a heap without units and is brought to the rate
+module _ (code : Code) (ordered : IsOrdered code) (rate : Rate) (e : ℕ) (env : Env) (old part_heap mid new : HeapState Branch) (p a s : Sound) (t : Timing) (empty : IsEmpty old) (inside : e < length code.nodes) (builds : built code e ≡ true) (evaluates : Evaluates code (e + 1) e env [] old part_heap p) (brings : Brings part_heap mid rate p a) where
+  part_comes : Comes (part_is code) old part_heap (item p (λ w. meaning code e env []) ∷ [])
+  part_comes = played_lawful code ordered (e + 1) e env [] old part_heap p (builds, evaluates) inside empty.laws tt
+
+  brought_comes : Comes (part_is code) old mid (item a (λ w. resampled rate (meaning code e env [])) ∷ [])
+  brought_comes = comes_brought (part_is code) old part_heap mid rate p a (λ w. meaning code e env []) [] empty.laws part_comes brings
+
+  brought_hand : Hand old mid (a ∷ [])
+  brought_hand = brought_comes.hand
+
+  module _ (when : t ≡ channel_timing a.timing) (made : MakesUnit mid new Channel t (a ∷ []) [] (a ∷ []) s) where
+    channel_comes : Comes (part_is code) old new (item s (λ w. mixes.channel (resampled rate (meaning code e env []))) ∷ [])
+    unfolding mixes.channel
+    channel_comes =
+        comes_made (part_is code) old mid new Channel t (a ∷ []) [] (a ∷ []) (item a (λ w. resampled rate (meaning code e env [])) ∷ []) [] s (λ w. mixes.channel (resampled rate (meaning code e env []))) empty.laws refl brought_comes made
+        (λ w l means extends begin are.
+        let now : a.timing ≡ timing_of (resampled rate (meaning code e env [])) = sym (timing_begin (part_is code) mid l a means begin.0) ∙ ap timing_of are.0 in
+        let value : (k : ℕ) → heard (input_sound l.samples (reader_of a)) k ≡ value_at (resampled rate (meaning code e env [])) k = λ k. heard_is l a k ∙ ap (λ x. value_at x k) are.0 in
+        λ i. sound_of ((when ∙ ap channel_timing now) i) (λ k. value k i))
+
+    channel_hand : Hand old new (s ∷ [])
+    channel_hand = channel_comes.hand
+
+    channel_settled : IsSettled new
+    channel_settled = settled_made mid new Channel t (a ∷ []) (a ∷ []) s made (settled_brought part_heap mid rate p a brings (played_quiet code (e + 1) e env [] old part_heap p (builds, evaluates) (empty_settled old empty)))
+
+    part_stands : Stands stack_of old part_heap (λ v. 0) (0 + stack_of e) (p ∷ [])
+    part_stands = played_rising code ordered (e + 1) e env [] old part_heap p (builds, evaluates) inside empty.laws tt (λ v. 0) 0 (empty_ranks old empty) tt
+
+    brought_stands : Stands stack_of part_heap mid part_stands.later (0 + stack_of e + 1) (a ∷ [])
+    brought_stands = step_brought stack_of part_heap mid rate p a part_stands.later (0 + stack_of e) part_comes.hand.laws part_comes.hand.begin.0 part_stands.ranks part_stands.in_hand brings
+
+    channel_stands : Stands stack_of mid new brought_stands.later (0 + stack_of e + 1 + 1) (s ∷ [])
+    channel_stands = step_made stack_of mid new Channel t (a ∷ []) s brought_stands.later (0 + stack_of e + 1) brought_hand.laws brought_hand.begin brought_stands.ranks brought_stands.in_hand made
+
+    -- where the heap means this, the sound is the channel
+    channel_later : (w : Whole) → Means (part_is code) old w → (l : Whole) × Means (part_is code) new l × (sound_at l s ≡ mixes.channel (resampled rate (meaning code e env [])))
+    channel_later w means = let l = channel_comes.means w means in (l.0.later, l.0.means, l.1.0)
+
+    channel_heard : (part : Parts Branch) → IsHeard part new s (mixes.channel (resampled rate (meaning code e env []))).samples
+    channel_heard part =
+        let l = channel_later no_lists (empty_means old empty (part_is code) no_lists) in
+        record { whole = l.0; means = means_any (part_is code) part new l.0 channel_settled l.1; samples = ap (λ (x : sounds.Sound). x.samples) l.2 }
+
+    channel_when : timing_of (mixes.channel (resampled rate (meaning code e env []))) ≡ s.timing
+    channel_when =
+        let l = channel_later no_lists (empty_means old empty (part_is code) no_lists) in
+        sym (ap timing_of l.2) ∙ timing_begin (part_is code) new l.0 s l.1 channel_hand.begin.0
+
+    channel_pulled : (left n : ℕ) → 0 + stack_of e + 1 + 1 ≤ left → list_of s ≡ Some n → IsPulled new s 0 left n
+    channel_pulled left n low is = by_length (length_of t)
+      where
+        list_none : nat_lt 0 t.len ≡ false → list_of s ≡ None
+        list_none q = made.makes.result.list ∙ ap (λ b. if b then Some made.makes.node else None) q
+
+        list_some : nat_lt 0 t.len ≡ true → list_of s ≡ Some made.makes.node
+        list_some q = made.makes.result.list ∙ ap (λ b. if b then Some made.makes.node else None) q
+
+        by_length : Length t → IsPulled new s 0 left n
+        by_length (Empty q f) = absurd (none_some (list_of s) n (list_none f) is)
+        by_length (Long q f) =
+            let same : made.makes.node ≡ n = some_same made.makes.node n (sym (list_some f) ∙ is) in
+            let under = channel_stands.in_hand.0 n is in
+            record {
+              unit = new_node Channel t (a ∷ []) [];
+              there = ap (node_at new) (sym same) ∙ (made.makes.unit q).after;
+              shown = ap (λ (u : Timing). u.len) (sym made.makes.result.timing);
+              done = refl;
+              only = refl;
+              ranked = record { rank = channel_stands.later; falls = channel_stands.ranks.falls; within = omega (arith, under, low) };
+            }
+
+    pub channel_plays : (left : ℕ) → 0 + stack_of e + 1 + 1 ≤ left → IsPlaying new s (mixes.channel (resampled rate (meaning code e env []))).samples 0 0 left
+    channel_plays left low = record {
+      laws = channel_hand.laws;
+      settled = channel_settled;
+      held = (are_held old new (s ∷ []) [] channel_hand).1;
+      len = len_of s.timing (mixes.channel (resampled rate (meaning code e env []))) channel_when;
+      place = made.makes.result.begins ∙ omega arith;
+      pulled = λ n is. channel_pulled left n low is;
+      alone = λ v y at some. alone_at old empty new s channel_hand v y at some;
+      heard = channel_heard;
+    }
 
 -- ---- the channels of a program
 
-one_channel : (code : Code) (rate : Rate) → is_built code ≡ true → channels code rate ≡ mixes.channel (resampled rate (meaning code code.play.0 (opening rate) [])) ∷ []
-unfolding channels
-one_channel code rate builds = ap (map (channel_at rate)) (played_one code code.play.0 (opening rate) [] (is_built_sound code builds))
+one_channel : (code : Code) (rate : Rate) → IsOrdered code → is_built code ≡ true → channels code rate ≡ mixes.channel (resampled rate (meaning code code.play.0 (opening rate) [])) ∷ []
+unfolding channels is_built
+one_channel code rate ordered builds = ap (map (channel_at rate)) (played_one code ordered (code.play.0 + 1) code.play.0 (opening rate) [] (omega arith) ordered.play builds)
 
 -- the channel of what a program plays, where there was no unit before
-pub channel_opened : {B : Type 0} (old new : HeapState B) (code : Code) (rate : Rate) (env : Env) (e : ExprId) (s : Sound) (xs : List Sound) → IsEmpty old → is_built code ≡ true → env ≡ opening rate → e ≡ code.play → Turns old new s (2 * e.0 + 3) (mixes.channel (resampled rate (meaning code e.0 env []))) → xs ≡ s ∷ [] → AreOpened code rate new xs
-channel_opened old new code rate env e s xs empty builds at_env at_play turn only = record {
-  channel = mixes.channel (resampled rate (meaning code code.play.0 (opening rate) []));
-  one = one_channel code rate builds;
-  sound = s;
-  only = only;
-  timing = opened.timing;
-  plays = turn_plays old new s (2 * code.play.0 + 3) (2 * code.play.0 + 4) (mixes.channel (resampled rate (meaning code code.play.0 (opening rate) []))) empty (omega arith) opened;
-}
-  where
-    opened : Turns old new s (2 * code.play.0 + 3) (mixes.channel (resampled rate (meaning code code.play.0 (opening rate) [])))
-    opened =
-        subst (λ (x : ExprId). Turns old new s (2 * x.0 + 3) (mixes.channel (resampled rate (meaning code x.0 (opening rate) [])))) at_play
-        (subst (λ (f : Env). Turns old new s (2 * e.0 + 3) (mixes.channel (resampled rate (meaning code e.0 f [])))) at_env turn)
+pub channel_opened : (code : Code) → IsOrdered code → (rate : Rate) (env : Env) (e : ExprId) (names : Names) (old part_heap mid new : HeapState Branch) (p a s : Sound) (t : Timing) (xs : List Sound) → IsEmpty old → is_built code ≡ true → env ≡ opening rate → e ≡ code.play → names ≡ [] → Evaluates code (e.0 + 1) e.0 env names old part_heap p → Brings part_heap mid rate p a → t ≡ channel_timing a.timing → MakesUnit mid new Channel t (a ∷ []) [] (a ∷ []) s → xs ≡ s ∷ [] → AreOpened code rate new xs
+unfolding is_built
+channel_opened code ordered rate env e names old part_heap mid new p a s t xs empty builds at_env at_play none evaluates brings when made only =
+    let now : Evaluates code (code.play.0 + 1) code.play.0 (opening rate) [] old part_heap p =
+    subst (λ (x : ExprId). Evaluates code (x.0 + 1) x.0 (opening rate) [] old part_heap p) at_play (subst (λ (q : Env). Evaluates code (e.0 + 1) e.0 q [] old part_heap p) at_env (subst (λ (ns : Names). Evaluates code (e.0 + 1) e.0 env ns old part_heap p) none evaluates)) in
+    record {
+      channel = mixes.channel (resampled rate (meaning code code.play.0 (opening rate) []));
+      one = one_channel code rate ordered builds;
+      sound = s;
+      only = only;
+      timing = sym (channel_when code ordered rate code.play.0 (opening rate) old part_heap mid new p a s t empty ordered.play builds now brings when made);
+      plays = channel_plays code ordered rate code.play.0 (opening rate) old part_heap mid new p a s t empty ordered.play builds now brings when made (height_of code) (omega arith);
+    }

@@ -26,7 +26,7 @@ use Rattle.ny_units.specs.declared.leaves.Leaf.TheVariants.{Pwl}
 use Rattle.ny_units.specs.Envelopes.{corner, corners, corner_at, last_place}
 use Rattle.ny_units.specs.Playing.{leaf_value, IsLeaf, Reaches}
 use Rattle.ny_eval.specs.Knots.{counted_from, knot_from, first_level}
-use Rattle.ny_eval.proofs.LeafLemmas.{leaf_is}
+use Rattle.ny_trace.proofs.FamilyLemmas.{leaf_is}
 
 -- ---- one breakpoint more
 

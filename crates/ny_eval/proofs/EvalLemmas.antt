@@ -1,56 +1,179 @@
--- What each kind of expression turns into.
-use Rattle.std.proofs.Common.{◌≡◌, ℕ, ◌+◌, ◌*◌, ◌<◌, max, List, [], map, sym, ap, subst, ◌∙◌, arith}
+-- The steps of evaluation, by family, and what is in hand between them.
+use Rattle.std.proofs.Common.{◌≡◌, ℕ, ◌+◌, ◌<◌, max, Bool, true, false, if◌then◌else◌, List, [], ◌∷◌, ◌++◌, length, None, Some, refl, sym, ap, subst, ◌∙◌, arith, ℤ, pos}
 use Rattle.ny_kernels.specs.declared.operation.Op.{Op}
-use Rattle.ny_num.specs.Sound as sounds
 use Rattle.ny_warp.specs.declared.env.Env.{Env}
 use Rattle.ny_check.specs.declared.node.Node.{Node}
 use Rattle.ny_check.specs.declared.node.Node.TheVariants as node
 use Rattle.ny_check.specs.declared.node.ExprId.{ExprId}
+use Rattle.ny_check.specs.declared.node.Change.{Change}
 use Rattle.ny_check.specs.declared.node.Generator.{Generator}
 use Rattle.ny_check.specs.declared.node.Effect.{Effect}
-use Rattle.ny_check.specs.Families.{leaf_sound, effect_sound}
-use Rattle.ny_check.specs.Values.{number_of}
-use Rattle.ny_check.specs.Code.{Code, node_at, IsBelow}
-use Rattle.ny_check.specs.Meaning.{meaning, sound_node}
-use Rattle.ny_check.proofs.MeaningEquation.{meaning-at}
-use Rattle.ny_heap.specs.Heap.{HeapState}
+use Rattle.ny_check.specs.declared.value.Scalar.{Scalar}
+use Rattle.ny_check.specs.declared.value.Scalar.TheVariants as scalar
+use Rattle.ny_check.specs.declared.value.Value.{Value}
+use Rattle.ny_check.specs.declared.value.Value.TheVariants.{Number, Sound as SoundOf}
+use Rattle.ny_check.specs.Code.{Code, node_at, IsBelow, IsOrdered}
+use Rattle.ny_check.specs.Values.{scalars_of, scalar_of, number_of, test_of}
+use Rattle.ny_check.specs.Families.{changed_env}
+use Rattle.ny_check.specs.Recursion.{below}
 use Rattle.ny_heap.specs.declared.sound.Sound.{Sound}
-use Rattle.ny_eval.specs.Inner.{IsInner}
-use Rattle.ny_eval.specs.Pairs.{operand, paired}
-use Rattle.ny_eval.specs.Turns.{Turns}
-use Rattle.ny_eval.proofs.TurnLemmas.{turns_as}
+use Rattle.ny_heap.specs.Heap.{HeapState}
+use Rattle.ny_heap.specs.Reach.{HeapLaws}
+use Rattle.ny_hands.specs.declared.branch.Branch.{Branch}
+use Rattle.ny_hands.specs.Calls.{IsSilent}
+use Rattle.ny_hands.specs.Frames.{Names}
+use Rattle.ny_hands.specs.Hands.{Hand, AreNamed}
+use Rattle.ny_hands.proofs.HandLemmas.{hand_none, hand_more}
+use Rattle.ny_hands.proofs.NameLemmas.{named_kept}
+use Rattle.ny_trace.specs.Evaluates.{NodeTurn, IsNoNumber, ValueTurn, JoinTurn, OperationTurn, SignTurn, LeafTurn, EffectTurn, Evaluates, numbers_in, sounds_of_values}
+use Rattle.ny_trace.proofs.StepLemmas.{lifted, value_lifted, step_at}
+use Rattle.ny_eval.specs.Built.{built_node, built}
+use Rattle.ny_eval.specs.Values.{number_in}
+use Rattle.ny_eval.proofs.BuiltLemmas.{not_built, built_at}
+use Rattle.ny_eval.proofs.PlayedLemmas.{played_lawful}
 
--- ---- kinds
+-- ---- what is in hand
 
-module _ {B : Type 0} (old new : HeapState B) (s : Sound) (code : Code) (e : ℕ) (here : Node) (env : Env) (found : here ≡ node_at code e) (ordered : IsBelow code.functions e here) where
-  meant : (at : Node) → here ≡ at → meaning code e env [] ≡ sound_node code at (meaning code) env []
-  meant at is = meaning-at code e at here env [] found is ordered
+-- of an expression that can be played
+pub sound_hand : (code : Code) → IsOrdered code → (n e : ℕ) (env : Env) (names : Names) (old new : HeapState Branch) (s : Sound) → e < length code.nodes → built code e ≡ true → HeapLaws old → AreNamed old names → Evaluates code n e env names old new s → Hand old new (s ∷ [])
+sound_hand code ordered n e env names old new s inside builds laws named t = (played_lawful code ordered n e env names old new s (builds, t) inside laws named).hand
 
-  -- a leaf, whose numbers stand in a slice
-  pub leaf_arm : (w : Generator) (es slice : List ExprId) → here ≡ node.Leaf w es → slice ≡ es → ((height : ℕ) → Turns old new s height (leaf_sound w env (map (λ x. number_of code x []) slice))) → Turns old new s (2 * e + 1) (meaning code e env [])
-  leaf_arm w es slice is same turn =
-      turns_as old new s (2 * e + 1) (2 * e + 1) (leaf_sound w env (map (λ x. number_of code x []) slice)) (meaning code e env []) (omega arith)
-      (ap (λ xs. leaf_sound w env (map (λ x. number_of code x []) xs)) same ∙ sym (meant (node.Leaf w es) is)) (turn (2 * e + 1))
+-- of an operand
+pub value_hand : (code : Code) → IsOrdered code → (n : ℕ) (e : ExprId) (env : Env) (names : Names) (old new : HeapState Branch) (v : Value Sound) → e.0 < length code.nodes → built code e.0 ≡ true → HeapLaws old → AreNamed old names → ValueTurn (Evaluates code n) code env names e old new v → Hand old new (sounds_of_values (v ∷ []))
+value_hand code ordered n e env names old new (Number k) inside builds laws named step = subst (λ (h : HeapState Branch). Hand old h []) step.1 (hand_none old laws)
+value_hand code ordered n e env names old new (SoundOf s) inside builds laws named step = sound_hand code ordered n e.0 env names old new s inside builds laws named step.1
 
-  -- an operation on two operands
-  pub pair_arm : (op : Op) (a b : ExprId) → here ≡ node.Pair op a b → a.0 < e → b.0 < e → Turns old new s (2 * max a.0 b.0 + 3) (paired op env.sound_rate (operand code env a) (operand code env b)) → Turns old new s (2 * e + 1) (meaning code e env [])
-  pair_arm op a b is first second turn =
-      turns_as old new s (2 * max a.0 b.0 + 3) (2 * e + 1) (paired op env.sound_rate (operand code env a) (operand code env b)) (meaning code e env []) (omega (arith, first, second)) (sym (meant (node.Pair op a b) is)) turn
+-- of two
+pub values_hand : (old mid new : HeapState Branch) (x y : Value Sound) → Hand old mid (sounds_of_values (x ∷ [])) → Hand mid new (sounds_of_values (y ∷ [])) → Hand old new (sounds_of_values (x ∷ y ∷ []))
+values_hand old mid new (Number k) y first second = hand_more old mid new [] (sounds_of_values (y ∷ [])) first second
+values_hand old mid new (SoundOf s) y first second = hand_more old mid new (s ∷ []) (sounds_of_values (y ∷ [])) first second
 
-  -- a unit over another expression's sound
-  pub single_arm : (at : Node) (a : ExprId) (m : sounds.Sound) → here ≡ at → sound_node code at (meaning code) env [] ≡ m → a.0 < e → Turns old new s (2 * a.0 + 3) m → Turns old new s (2 * e + 1) (meaning code e env [])
-  single_arm at a m is means below turn = turns_as old new s (2 * a.0 + 3) (2 * e + 1) m (meaning code e env []) (omega (arith, below)) (sym (meant at is ∙ means)) turn
+-- of one, where the other was refused
+pub first_hand : (old mid new : HeapState Branch) (x : Value Sound) → Hand old mid (sounds_of_values (x ∷ [])) → Hand mid new [] → Hand old new (sounds_of_values (x ∷ []))
+first_hand old mid new (Number k) first second = hand_more old mid new [] [] first second
+first_hand old mid new (SoundOf s) first second = hand_more old mid new (s ∷ []) [] first second
 
-  -- an effect, whose numbers stand in a slice
-  pub effect_arm : (w : Effect) (part : ExprId) (es slice : List ExprId) → here ≡ node.Effect w part es → slice ≡ es → part.0 < e → Turns old new s (2 * part.0 + 2) (effect_sound w (map (λ x. number_of code x []) slice) (meaning code part.0 env [])) → Turns old new s (2 * e + 1) (meaning code e env [])
-  effect_arm w part es slice is same smaller turn =
-      turns_as old new s (2 * part.0 + 2) (2 * e + 1) (effect_sound w (map (λ x. number_of code x []) slice) (meaning code part.0 env [])) (meaning code e env []) (omega (arith, smaller))
-      (ap (λ xs. effect_sound w (map (λ x. number_of code x []) xs) (meaning code part.0 env [])) same ∙ sym (meant (node.Effect w part es) is)) turn
+pub names_after : (old new : HeapState Branch) (ss : List Sound) (names : Names) → Hand old new ss → AreNamed old names → AreNamed new names
+names_after old new ss names hand named = named_kept old new hand.kept names named
 
-  -- another expression in its place
-  pub inner_arm : (part : ℕ) (changed : Env) → IsInner code e env part changed → Turns old new s (2 * part + 1) (meaning code part changed []) → Turns old new s (2 * e + 1) (meaning code e env [])
-  inner_arm part changed inside turn = turns_as old new s (2 * part + 1) (2 * e + 1) (meaning code part changed []) (meaning code e env []) (omega (arith, inside.smaller)) (sym inside.means) turn
+-- ---- operands
 
--- in a copy of the environment
-pub in_copy : {B : Type 0} (old new : HeapState B) (s : Sound) (code : Code) (e : ℕ) (copy env : Env) (height : ℕ) → copy ≡ env → Turns old new s height (meaning code e copy []) → Turns old new s height (meaning code e env [])
-in_copy old new s code e copy env height same turn = subst (λ (f : Env). Turns old new s height (meaning code e f [])) same turn
+pub number_is : (s : Scalar) (v : ℤ) → Some v ≡ number_in s → s ≡ scalar.Number v
+number_is (scalar.Number k) v e = ap (λ x. scalar.Number x) (same e)
+  where
+    same : {A : Type 0} {a b : A} → Some a ≡ Some b → b ≡ a
+    same p = cc
+number_is (scalar.Test b) v e = absurd (never e)
+  where
+    never : Some v ≡ None → ⊥
+    never q = cc
+number_is scalar.Sound v e = absurd (never e)
+  where
+    never : Some v ≡ None → ⊥
+    never q = cc
+
+pub no_number : (s : Scalar) → None ≡ number_in s → IsNoNumber s
+no_number (scalar.Number k) e = never e
+  where
+    never : None ≡ Some k → ⊥
+    never q = cc
+no_number (scalar.Test b) e = tt
+no_number scalar.Sound e = tt
+
+pub in_copy : (code : Code) (n : ℕ) (e : ExprId) (env copy : Env) (names : Names) (old new : HeapState Branch) (v : Value Sound) → copy ≡ env → ValueTurn (Evaluates code n) code copy names e old new v → ValueTurn (Evaluates code n) code env names e old new v
+in_copy code n e env copy names old new v same step = subst (λ (q : Env). ValueTurn (Evaluates code n) code q names e old new v) same step
+
+-- ---- the parts of a node stand before it
+
+module _ (code : Code) (e : ℕ) where
+  pub pair_below : (op : Op) (a b : ExprId) (here : Node) → here ≡ node.Pair op a b → IsBelow code.functions e here → (a.0 < e) × (b.0 < e)
+  pair_below op a b here is ordered = subst (λ n. IsBelow code.functions e n) is ordered
+
+  pub sign_below : (a : ExprId) (here : Node) → here ≡ node.Neg a → IsBelow code.functions e here → a.0 < e
+  sign_below a here is ordered = subst (λ n. IsBelow code.functions e n) is ordered
+
+  pub effect_below : (w : Effect) (a : ExprId) (es : List ExprId) (here : Node) → here ≡ node.Effect w a es → IsBelow code.functions e here → a.0 < e
+  effect_below w a es here is ordered = (subst (λ n. IsBelow code.functions e n) is ordered).0
+
+  pub choice_below : (c a b : ExprId) (t : Bool) (part : ℕ) (here : Node) → here ≡ node.If c a b → IsBelow code.functions e here → part ≡ (if t then a.0 else b.0) → part < e
+  choice_below c a b t part here is ordered one = subst (λ k. k < e) (sym one) (by_choice t (subst (λ n. IsBelow code.functions e n) is ordered).1 (subst (λ n. IsBelow code.functions e n) is ordered).2)
+    where
+      by_choice : (t : Bool) → a.0 < e → b.0 < e → (if t then a.0 else b.0) < e
+      by_choice true p q = p
+      by_choice false p q = q
+
+  pub change_below : (c : Change) (a : ExprId) (here : Node) → here ≡ node.Change c a → IsBelow code.functions e here → a.0 < e
+  change_below c a here is ordered = (subst (λ n. IsBelow code.functions e n) is ordered).1
+
+-- ---- the step at a node
+
+pub operation_turn : (code : Code) (op : Op) (a b : ExprId) (env copy : Env) (names : Names) (old mid end new : HeapState Branch) (x y : Value Sound) (s : Sound) (n : ℕ) → copy ≡ env → max a.0 b.0 < n → ValueTurn (Evaluates code (a.0 + 1)) code copy names a old mid x → ValueTurn (Evaluates code (b.0 + 1)) code env names b mid end y → JoinTurn op env.sound_rate x y end new s → OperationTurn (Evaluates code n) code op a b env names old new s
+operation_turn code op a b env copy names old mid end new x y s n same less first second join = record {
+  left = x;
+  right = y;
+  mid = mid;
+  end = end;
+  first = value_lifted code (a.0 + 1) n a env names old mid x (omega (arith, less)) (in_copy code (a.0 + 1) a env copy names old mid x same first);
+  second = value_lifted code (b.0 + 1) n b env names mid end y (omega (arith, less)) second;
+  joined = join;
+}
+
+module _ (code : Code) (e : ℕ) (here : Node) (env : Env) (names : Names) (old new : HeapState Branch) (s : Sound) (found : here ≡ node_at code e) (ordered : IsBelow code.functions e here) where
+  pub pair_arm : (op : Op) (a b : ExprId) → here ≡ node.Pair op a b → ((n : ℕ) → max a.0 b.0 < n → OperationTurn (Evaluates code n) code op a b env names old new s) → Evaluates code (e + 1) e env names old new s
+  pair_arm op a b is turn =
+      let under = subst (λ n. IsBelow code.functions e n) is ordered in
+      step_at code e here env names old new s found (node.Pair op a b) is (turn e (omega (arith, under.0, under.1)))
+
+  pub sign_arm : (a : ExprId) → here ≡ node.Neg a → ((n : ℕ) → a.0 < n → SignTurn (Evaluates code n) code a env names old new s) → Evaluates code (e + 1) e env names old new s
+  sign_arm a is turn = step_at code e here env names old new s found (node.Neg a) is (turn e (subst (λ n. IsBelow code.functions e n) is ordered))
+
+  -- its numbers stand in a slice
+  pub leaf_arm : (w : Generator) (es slice : List ExprId) → here ≡ node.Leaf w es → slice ≡ es → LeafTurn w env (numbers_in code names slice) old new s → Evaluates code (e + 1) e env names old new s
+  leaf_arm w es slice is same turn = step_at code e here env names old new s found (node.Leaf w es) is (subst (λ xs. LeafTurn w env (numbers_in code names xs) old new s) same turn)
+
+  pub effect_arm : (w : Effect) (a : ExprId) (es slice : List ExprId) → here ≡ node.Effect w a es → slice ≡ es → ((n : ℕ) → a.0 < n → EffectTurn (Evaluates code n) w a (numbers_in code names slice) env names old new s) → Evaluates code (e + 1) e env names old new s
+  effect_arm w a es slice is same turn =
+      let under = subst (λ n. IsBelow code.functions e n) is ordered in
+      step_at code e here env names old new s found (node.Effect w a es) is
+      (subst (λ xs. EffectTurn (Evaluates code e) w a (numbers_in code names xs) env names old new s) same (turn e under.0))
+
+  pub choice_arm : (c a b : ExprId) (t : Bool) (part : ℕ) → here ≡ node.If c a b → t ≡ test_of code c (scalars_of names) → part ≡ (if t then a.0 else b.0) → Evaluates code (part + 1) part env names old new s → Evaluates code (e + 1) e env names old new s
+  choice_arm c a b t part is holds one turn =
+      let less = choice_below code e c a b t part here is ordered one in
+      step_at code e here env names old new s found (node.If c a b) is
+      (subst (λ k. Evaluates code e k env names old new s) (one ∙ ap (λ (x : Bool). if x then a.0 else b.0) holds)
+      (lifted code (part + 1) e part env names old new s (omega (arith, less)) turn))
+
+  pub change_arm : (c : Change) (a : ExprId) (changed : Env) → here ≡ node.Change c a → changed ≡ changed_env c (λ k. number_of code k (scalars_of names)) env → Evaluates code (a.0 + 1) a.0 changed names old new s → Evaluates code (e + 1) e env names old new s
+  change_arm c a changed is now turn =
+      let under = subst (λ n. IsBelow code.functions e n) is ordered in
+      step_at code e here env names old new s found (node.Change c a) is
+      (subst (λ (q : Env). Evaluates code e a.0 q names old new s) now
+      (lifted code (a.0 + 1) e a.0 changed names old new s (omega (arith, under.1)) turn))
+
+  -- what else can be played is a number or a test
+  module _ (not_pair : (op : Op) (a b : ExprId) → here ≡ node.Pair op a b → ⊥) (not_neg : (a : ExprId) → here ≡ node.Neg a → ⊥) (not_leaf : (w : Generator) (es : List ExprId) → here ≡ node.Leaf w es → ⊥) (not_effect : (w : Effect) (part : ExprId) (es : List ExprId) → here ≡ node.Effect w part es → ⊥) (not_if : (c a b : ExprId) → here ≡ node.If c a b → ⊥) (not_change : (c : Change) (a : ExprId) → here ≡ node.Change c a → ⊥) (silent : IsSilent old new env.sound_rate s) where
+    silent_turn : (known : ℕ → Bool) (at : Node) → here ≡ at → built_node at known ≡ true → NodeTurn (Evaluates code e) code e at env names old new s
+    silent_turn known (node.Number v) is builds = silent
+    silent_turn known (node.Local x) is builds = not_built builds
+    silent_turn known (node.Global a) is builds = silent
+    silent_turn known (node.Call f es) is builds = not_built builds
+    silent_turn known (node.Block bs a) is builds = not_built builds
+    silent_turn known (node.Pair op a b) is builds = absurd (not_pair op a b is)
+    silent_turn known (node.Div a v) is builds = silent
+    silent_turn known (node.Neg a) is builds = absurd (not_neg a is)
+    silent_turn known (node.Compare r a b) is builds = silent
+    silent_turn known (node.And a b) is builds = silent
+    silent_turn known (node.Or a b) is builds = silent
+    silent_turn known (node.Not a) is builds = silent
+    silent_turn known (node.If c a b) is builds = absurd (not_if c a b is)
+    silent_turn known (node.Leaf w es) is builds = absurd (not_leaf w es is)
+    silent_turn known (node.Effect w a es) is builds = absurd (not_effect w a es is)
+    silent_turn known (node.Cue a) is builds = not_built builds
+    silent_turn known (node.Mix o es) is builds = not_built builds
+    silent_turn known (node.Repeat o x k a) is builds = not_built builds
+    silent_turn known (node.Change c a) is builds = absurd (not_change c a is)
+    silent_turn known (node.Vector es) is builds = not_built builds
+
+    pub silent_arm : built code e ≡ true → Evaluates code (e + 1) e env names old new s
+    silent_arm builds = step_at code e here env names old new s found here refl (silent_turn (below e false (built code)) here refl (built_at code e here (sym found) builds))

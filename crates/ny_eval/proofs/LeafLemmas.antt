@@ -1,4 +1,4 @@
--- A leaf as a unit.
+-- What the leaves give, row by row.
 use Rattle.std.proofs.Common.{◌≡◌, ℕ, zero, suc, ◌+◌, ◌-◌, ◌<◌, ◌≤◌, List, [], ◌∷◌, map, refl, sym, ap, subst, ◌∙◌, arith, ℤ, pos, neg_ℤ, ◌≤ℤ◌}
 use Rattle.std.proofs.lemmas.Int.{ints, int_max_is, int_min_is}
 use Rattle.std.specs.List.{range_with_len}
@@ -15,53 +15,13 @@ use Rattle.ny_check.specs.Families.{leaf_sound, leaf_time}
 use Rattle.ny_check.specs.Behaviours.{sustained_timing, plain_timing, rest_timing, const_sound, osc_sound, hzosc_sound, noise_sound, rest_sound, ramp_sound, lfo_sound}
 use Rattle.ny_units.specs.declared.leaves.Leaf.{Leaf as LeafOf}
 use Rattle.ny_units.specs.declared.leaves.Leaf.TheVariants.{Const, Osc, HzOsc, Noise, Ramp, Lfo}
-use Rattle.ny_units.specs.Playing.{leaf_value, IsLeaf, Reaches}
+use Rattle.ny_units.specs.Playing.{leaf_value}
 use Rattle.ny_heap.specs.Heap.{Made, HeapState}
-use Rattle.ny_heap.specs.Means.{KeepsMeaning}
-use Rattle.ny_heap.specs.Reach.{HeapLaws, IsTrimmed}
-use Rattle.ny_heap.specs.Steps.{IsMadeOf, Makes, MakesMeaning, without_sounds}
 use Rattle.ny_heap.specs.declared.make.Make.TheVariants.{Leaf}
 use Rattle.ny_heap.specs.declared.sound.Sound.{Sound}
-use Rattle.ny_eval.specs.Turns.{Turns, IsAsBefore}
-use Rattle.ny_eval.proofs.MadeLemmas.{spending, made_comes, given_up, nothing_left}
-use Rattle.ny_eval.proofs.SoundLemmas.{timing_of-sound_of}
-use Rattle.ny_eval.proofs.TurnLemmas.{came_none, came_turns}
-
--- ---- samples counted from the start
-
-map_shifted : (f : ℕ → ℤ) (start from len : ℕ) → start ≤ from → map (λ m. f (m - start)) (range_with_len from len) ≡ map f (range_with_len (from - start) len)
-map_shifted f start from zero le = refl
-map_shifted f start from (suc len) le =
-    let next : from + 1 - start ≡ from - start + 1 = omega arith in
-    (λ i. f (from - start) ∷ (map_shifted f start (from + 1) len (omega arith) ∙ ap (λ n. map f (range_with_len n len)) next) i)
-
--- a sound whose values count from its start is a leaf
-pub leaf_is : (t : Timing) (f : ℕ → ℤ) → sound_of t (λ m. f (m - t.start)) ≡ leaves.leaf t f
-unfolding sound_of leaves.leaf
-leaf_is t f =
-    let none : t.start - t.start ≡ 0 = omega arith in
-    let remade : List ℤ → sounds.Sound = λ xs. record { rate = t.rate; start = t.start; stop = t.stop; samples = xs } in
-    ap remade (map_shifted f t.start t.start t.len (omega arith) ∙ ap (λ n. map f (range_with_len n t.len)) none)
-
-leaf_timing_is : (t : Timing) (f : ℕ → ℤ) → t ≡ timing_of (leaves.leaf t f)
-leaf_timing_is t f = sym (timing_of-sound_of t (λ m. f (m - t.start))) ∙ ap timing_of (leaf_is t f)
-
--- ---- the unit
-
-pub leaf_made : (l : LeafOf) (xs : List Sound) (t : Timing) → xs ≡ [] → (0 < t.len → IsLeaf l × Reaches l t.len) → IsTiming t → IsMadeOf (Leaf l) xs t
-leaf_made l xs t none heard bounds = subst (λ ys. IsMadeOf (Leaf l) ys t) (sym none) (record { count = refl; bounds = bounds; rates = λ k d within. absurd (omega (arith, within)); heard = heard })
-
-pub leaf_turns : {B : Type 0} (old new : HeapState B) (l : LeafOf) (t : Timing) (xs : List Sound) (s : Sound) (height : ℕ) → xs ≡ [] → HeapLaws old → HeapLaws new → IsTiming t → Makes old new (Made (Leaf l)) t xs [] xs s → MakesMeaning old new (Made (Leaf l)) t xs [] s → Turns old new s height (leaves.leaf t (leaf_value l))
-leaf_turns old new l t xs s height none laws laws_new bounds makes meaning =
-    came_turns old new s (leaves.leaf t (leaf_value l)) (height + 1) height (made_comes old old new (Made (Leaf l)) t [] [] s height (height + 1) (leaves.leaf t (leaf_value l)) (spending old old [] [] (height + 1) (came_none old (height + 1) laws)) tt laws_new bounds
-    (subst (λ ys. Makes old new (Made (Leaf l)) t ys [] ys s) none makes) (omega arith)
-    (subst (λ ys. MakesMeaning old new (Made (Leaf l)) t ys [] s) none meaning)
-    (leaf_timing_is t (leaf_value l))
-    (λ part w are. leaf_is t (leaf_value l)))
-
-pub leaf_refused : {B : Type 0} (old new : HeapState B) (xs : List Sound) → xs ≡ [] → HeapLaws old → HeapLaws new → IsTrimmed (without_sounds old xs) new → KeepsMeaning old new → IsAsBefore old new
-leaf_refused old new xs none laws laws_new trimmed keeps =
-    nothing_left old new 0 (given_up old old new [] [] 0 (came_none old 0 laws) laws_new (subst (λ ys. IsTrimmed (without_sounds old ys) new) none trimmed) keeps)
+use Rattle.ny_hands.specs.declared.branch.Branch.{Branch}
+use Rattle.ny_hands.specs.Calls.{MakesUnit}
+use Rattle.ny_trace.specs.Evaluates.{LeafTurn}
 
 -- ---- loudness
 
@@ -141,3 +101,13 @@ lfo_is env hz d number inc t at_hz when at_inc =
 -- a unit that gives the sound of a generator's row gives that of the generator
 pub by_row : (g row : Generator) (env : Env) (ns : List ℤ) (t : Timing) (l : LeafOf) → g ≡ row → t ≡ leaf_time g env ns → (t ≡ leaf_time row env ns → leaves.leaf t (leaf_value l) ≡ leaf_sound row env ns) → leaves.leaf t (leaf_value l) ≡ leaf_sound g env ns
 by_row g row env ns t l is when gives = gives (when ∙ ap (λ x. leaf_time x env ns) is) ∙ ap (λ x. leaf_sound x env ns) (sym is)
+
+-- the unit of a leaf of these numbers
+pub leaf_turn : (old new : HeapState Branch) (g : Generator) (env : Env) (timed seen ns : List ℤ) (t : Timing) (l : LeafOf) (s : Sound) → timed ≡ ns → seen ≡ ns → t ≡ leaf_time g env timed → leaves.leaf t (leaf_value l) ≡ leaf_sound g env seen → MakesUnit old new (Made (Leaf l)) t [] [] [] s → LeafTurn g env ns old new s
+leaf_turn old new g env timed seen ns t l s same_time same when sound makes =
+    let now : t ≡ leaf_time g env ns = when ∙ ap (leaf_time g env) same_time in
+    record {
+      played = l;
+      is = ap (λ (u : Timing). leaves.leaf u (leaf_value l)) (sym now) ∙ (sound ∙ ap (leaf_sound g env) same);
+      made = subst (λ (u : Timing). MakesUnit old new (Made (Leaf l)) u [] [] [] s) now makes;
+    }

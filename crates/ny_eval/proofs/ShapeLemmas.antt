@@ -15,21 +15,14 @@ use Rattle.ny_filters.specs.declared.filter.Filter.TheVariants as filter
 use Rattle.ny_heap.specs.Heap.{Filtered}
 use Rattle.ny_heap.specs.Means.{made_value}
 use Rattle.ny_heap.specs.declared.make.Make.TheVariants as make
-use Rattle.ny_heap.specs.Heap.{HeapState}
-use Rattle.ny_heap.specs.Reach.{HeapLaws}
 use Rattle.ny_heap.specs.declared.make.Make.{Make}
-use Rattle.ny_heap.specs.declared.sound.Sound.{Sound}
-use Rattle.ny_eval.specs.Made.{made_with, IsSingle}
+use Rattle.ny_hands.specs.Made.{made_with, IsSingle}
 use Rattle.ny_check.specs.declared.node.Effect.{Effect}
 use Rattle.ny_check.specs.declared.node.Effect.TheVariants as effect
 use Rattle.ny_check.specs.Families.{number_at, effect_sound}
 use Rattle.ny_eval.specs.Shapes.{make_of}
-use Rattle.ny_eval.specs.Turns.{Turns, Replaces}
-use Rattle.ny_eval.proofs.BringLemmas.{timing_rate}
-use Rattle.ny_eval.proofs.HandLemmas.{turn_replaced}
-use Rattle.ny_eval.proofs.TurnLemmas.{turns_as}
-use Rattle.ny_eval.proofs.UnitLemmas.{each_is}
-use Rattle.ny_eval.proofs.LeafLemmas.{leaf_is}
+use Rattle.ny_hands.proofs.HeardLemmas.{each_is}
+use Rattle.ny_trace.proofs.FamilyLemmas.{leaf_is}
 
 -- the sound of this timing with these samples
 abbrev remade : sounds.Sound → List ℤ → sounds.Sound
@@ -85,9 +78,6 @@ effect_single w ns rate unit is = subst IsSingle (sym is) (by_effect w)
     by_effect effect.Biquad = tt
     by_effect effect.Comb = delay_within rate (number_at ns 0) (number_at ns 1)
 
--- a sound that just came, and what is made of it
-pub effect_turns : {B : Type 0} (old mid new : HeapState B) (a s : Sound) (height top : ℕ) (m : sounds.Sound) (w : Effect) (ns numbers : List ℤ) (unit : Make) → height + 1 ≤ top → HeapLaws old → Turns old mid a height m → unit ≡ make_of w ns a.timing.rate → ns ≡ numbers → Replaces mid new a s 1 (made_with unit) → Turns old new s top (effect_sound w numbers m)
-effect_turns old mid new a s height top m w ns numbers unit le laws turn is same replaces =
-    turns_as old new s top top (made_with unit m) (effect_sound w numbers m) (omega arith)
-    (ap (λ k. made_with k m) (is ∙ ap (make_of w ns) (timing_rate a.timing m turn.timing)) ∙ (effect_is w ns m ∙ ap (λ k. effect_sound w k m) same))
-    (turn_replaced old mid new a s height 1 top m (made_with unit) le laws turn replaces)
+-- the unit makes of any sound of this rate what the effect does
+pub effect_made : (w : Effect) (ns numbers : List ℤ) (rate : Rate) (unit : Make) → unit ≡ make_of w ns rate → ns ≡ numbers → (m : sounds.Sound) → m.rate ≡ rate → made_with unit m ≡ effect_sound w numbers m
+effect_made w ns numbers rate unit is same m at = ap (λ k. made_with k m) (is ∙ ap (make_of w ns) (sym at)) ∙ (effect_is w ns m ∙ ap (λ k. effect_sound w k m) same)

@@ -1,11 +1,8 @@
 pub mod Below
 pub mod Built
-pub mod Inner
 pub mod Knots
-pub mod Made
 pub mod Opened
 pub mod Order
-pub mod Pairs
 pub mod Playing
 pub mod Shapes
-pub mod Turns
+pub mod Values

@@ -10,20 +10,17 @@ use Rattle.ny_heap.specs.Reach.{HeapLaws}
 use Rattle.ny_heap.specs.declared.sound.Sound.{Sound}
 use Rattle.ny_eval.specs.Playing.{IsPlaying}
 
--- the pool and the counts are as they were
-pub record SameCounts {B : Type 0} (old new : HeapState B) : Type 0 where
-  pub pool : new.pool ≡ old.pool
-  pub block : new.block ≡ old.block
-  pub fills : new.fills ≡ old.fills
-  pub peak : new.peak ≡ old.peak
-
 -- there is no unit
 pub record IsEmpty {B : Type 0} (h : HeapState B) : Type 0 where
   pub laws : HeapLaws h
   pub none : (v : ℕ) → node_at h v ≡ None
 
--- The unit of the expression at place e of the table stands no higher than 2 * e + 1, since one of an operand that was brought to
--- another rate may stand between it and the next. So may one between what is played and the channel, which stands on top.
+-- The unit of the expression at place e of the table stands no higher than this, since one of an operand that was brought to another
+-- rate may stand between it and the next.
+abbrev pub stack_of : ℕ → ℕ
+stack_of e = 2 * e + 1
+
+-- So may one between what is played and the channel, which stands on top.
 abbrev pub height_of : Code → ℕ
 height_of code = 2 * code.play.0 + 4
 

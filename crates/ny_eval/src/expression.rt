@@ -1,65 +1,130 @@
-ghost use Rattle.std.specs.Prelude.{◌≡◌, ℕ, ◌+◌, ◌*◌, ◌<◌, max, length, map, [], IfOk, OnErr};
-ghost use Rattle.ny_num.specs.Pointwise.{combined};
-ghost use Rattle.ny_num.specs.Resampling.{resampled};
-ghost use Rattle.ny_kernels.specs.Operations.{operation};
-ghost use Rattle.ny_check.specs.Code.{AllBelow};
-ghost use Rattle.ny_check.specs.Families.{effect_sound};
-ghost use Rattle.ny_check.specs.Values.{number_of};
+ghost use Rattle.std.specs.Prelude.{◌≡◌, ℕ, ◌+◌, ◌*◌, ◌<◌, ◌≤◌, max, length, true, if◌then◌else◌, [], ◌∷◌, IfOk, OnErr, OnOk};
+ghost use Rattle.ny_check.specs.Code.{AllBelow, IsChangeBelow};
+ghost use Rattle.ny_check.specs.Families.{changed_env};
+ghost use Rattle.ny_check.specs.Values.{scalars_of, number_of};
 ghost use Rattle.ny_check.specs.Meaning.{meaning};
-ghost use Rattle.ny_heap.specs.Steps.{both_timing};
-ghost use Rattle.ny_eval.specs.Built.{built, joined};
-ghost use Rattle.ny_eval.specs.declared.built.Built.TheVariants.{Sound as SoundKind};
-ghost use Rattle.ny_eval.specs.Made.{made_with, IsSingle};
-ghost use Rattle.ny_eval.specs.Pairs.{operand, paired};
-ghost use Rattle.ny_eval.specs.Turns.{Turns, IsAsBefore};
+ghost use Rattle.ny_eval.specs.Below.{IsSettled};
+ghost use Rattle.ny_eval.specs.Built.{built};
+ghost use Rattle.ny_eval.specs.Opened.{stack_of};
+ghost use Rattle.ny_hands.specs.Frames.{bound_in, part_is, sounds_among};
+ghost use Rattle.ny_hands.specs.Hands.{AreNamed, Hand, Comes, item};
+ghost use Rattle.ny_trace.specs.Heights.{Ranks, AreLow, Stands};
+ghost use Rattle.ny_trace.specs.Evaluates.{Evaluates, ValueTurn, OperationTurn, SignTurn, EffectTurn, numbers_in};
 
 use crate::filter::make_of;
-use crate::inner::inner;
-use crate::leaf::{lawful, make_leaf};
-use crate::unit::{brought_single, single, together};
-use crate::values::{numbers, sample};
-use ny_check::{Effect, ExprId, Node, Program};
-use ny_heap::{Heap, Make, Op, Sound};
-use ny_num::Sample;
+use crate::leaf::{lawful, make_leaf, silent};
+use crate::unit::{give_up, joined, single};
+use crate::values::{number_in, numbers};
+use ny_check::changes::{change_by, change_rate};
+use ny_check::{Binds, Change, Effect, ExprId, Node, Program, Value};
+use ny_hands::Branch;
+use ny_heap::{Heap, Op, Sound};
+use ny_num::Fix;
 use ny_warp::Env;
 use std::alloc::{AllocError, Global};
 
-/// The sound that an expression is, in an environment, as a sound of the heap
-/// (`docs/DEFINITIONS.md`, "Evaluation").
+/// Changes an environment.
+///
+/// # Errors
+/// `AllocError` where memory is missing.
+fn apply(
+    alloc: Global,
+    p: &Program,
+    e: ExprId,
+    change: &Change,
+    binds: &Binds<Sound>,
+    env: &mut Env,
+) -> Result<(), AllocError>
+    requires inside { e.0 ≤ length p.now.nodes }
+    requires below { IsChangeBelow e.0 change.now }
+    ensures { OnOk result (env.new ≡ changed_env change.now (λ k. number_of p.now k (scalars_of binds.now.names)) env.old) }
+{
+    match change {
+        Change::By(by, k) => {
+            change_by(env, *by, p.number(alloc, *k, binds)?);
+            Ok(())
+        }
+        Change::Warp(map) => Ok(env.warp(alloc, map)?),
+        Change::Rate(rated, rate) => {
+            change_rate(env, *rated, *rate);
+            Ok(())
+        }
+    }
+}
+
+/// One of two expressions.
+fn chosen(holds: bool, a: ExprId, b: ExprId) -> ExprId
+    ensures { result.0 ≡ (if holds then a.0 else b.0) }
+{
+    if holds { a } else { b }
+}
+
+/// The sound that an expression is, in an environment.
 ///
 /// # Errors
 /// `AllocError` where memory is missing. The heap is then as before.
-#[cycle(eval)]
-pub fn eval<B>(
+#[cycle(evaluate)]
+fn evaluate(
     alloc: Global,
     p: &Program,
     e: ExprId,
     env: Env,
-    heap: &mut Heap<B>,
+    binds: &Binds<Sound>,
+    heap: &mut Heap<Branch>,
 ) -> Result<Sound, AllocError>
     requires inside { e.0 < length p.now.nodes }
-    requires built { built p.now e.0 ≡ SoundKind }
-    ensures turns { IfOk result (λ s. Turns heap.old heap.new s (2 * e.0 + 1) (meaning p.now e.0 env [])) }
-    ensures refused { OnErr result (IsAsBefore heap.old heap.new) }
+    requires built { built p.now e.0 ≡ true }
+    requires names { AreNamed heap.old binds.now.names }
+    ensures evaluates { IfOk result (λ s. Evaluates p.now (e.0 + 1) e.0 env binds.now.names heap.old heap.new s) }
+    ensures refused { OnErr result (Hand heap.old heap.new []) }
 {
+    lawful(heap);
     match p.node(e) {
-        Node::Pair(op, a, b) => Ok(pair(alloc, p, *op, *a, *b, env, heap)?),
-        Node::Neg(a) => {
-            let make = Make::Pair(Op::Sub, Some(Sample::ZERO), None);
-            Ok(at_sound_rate(alloc, p, make, *a, env, heap)?)
-        }
+        Node::Pair(op, a, b) => Ok(pair(alloc, p, *op, *a, *b, env, binds, heap)?),
+        Node::Neg(a) => Ok(negated(alloc, p, *a, env, binds, heap)?),
         Node::Leaf(generator, parts) => {
-            Ok(make_leaf(alloc, p, e, *generator, parts.as_slice(), &env, heap)?)
+            Ok(make_leaf(alloc, p, e, *generator, parts.as_slice(), &env, binds, heap)?)
         }
         Node::Effect(effect, part, parts) => {
-            Ok(affected(alloc, p, e, *effect, *part, parts.as_slice(), env, heap)?)
+            Ok(affected(alloc, p, e, *effect, *part, parts.as_slice(), env, binds, heap)?)
         }
-        _ => {
-            lawful(heap);
+        Node::If(c, a, b) => {
+            let part = chosen(p.test(alloc, *c, binds)?, *a, *b);
+            Ok(evaluate(alloc, p, part, env, binds, heap)?)
+        }
+        Node::Change(change, part) => {
             let mut changed = env;
-            let part = inner(alloc, p, e, &mut changed)?;
-            Ok(eval(alloc, p, part, changed, heap)?)
+            apply(alloc, p, e, change, binds, &mut changed)?;
+            Ok(evaluate(alloc, p, *part, changed, binds, heap)?)
         }
+        _ => Ok(silent(alloc, env.sound_rate, heap)?),
+    }
+}
+
+/// An operand, in an environment: a number, or else the sound that it is.
+///
+/// # Errors
+/// `AllocError` where memory is missing. The heap is then as before.
+#[cycle(evaluate)]
+fn operand(
+    alloc: Global,
+    p: &Program,
+    e: ExprId,
+    env: Env,
+    binds: &Binds<Sound>,
+    heap: &mut Heap<Branch>,
+) -> Result<Value<Sound>, AllocError>
+    requires inside { e.0 < length p.now.nodes }
+    requires built { built p.now e.0 ≡ true }
+    requires names { AreNamed heap.old binds.now.names }
+    ensures turn { IfOk result (λ v. ValueTurn (Evaluates p.now (e.0 + 1)) p.now env binds.now.names e heap.old heap.new v) }
+    ensures refused { OnErr result (Hand heap.old heap.new []) }
+{
+    lawful(heap);
+    let scalar = p.scalar(alloc, e, binds)?;
+    match number_in(scalar) {
+        Some(v) => Ok(Value::Number(v)),
+        None => Ok(Value::Sound(evaluate(alloc, p, e, env, binds, heap)?)),
     }
 }
 
@@ -67,106 +132,70 @@ pub fn eval<B>(
 ///
 /// # Errors
 /// `AllocError` where memory is missing. The heap is then as before.
-#[cycle(eval)]
-fn pair<B>(
+#[cycle(evaluate)]
+fn pair(
     alloc: Global,
     p: &Program,
     op: Op,
     a: ExprId,
     b: ExprId,
     env: Env,
-    heap: &mut Heap<B>,
+    binds: &Binds<Sound>,
+    heap: &mut Heap<Branch>,
 ) -> Result<Sound, AllocError>
     requires first { a.0 < length p.now.nodes }
     requires second { b.0 < length p.now.nodes }
-    requires built { joined (built p.now a.0) (built p.now b.0) ≡ SoundKind }
-    ensures turns { IfOk result (λ s. Turns heap.old heap.new s (2 * max a.0 b.0 + 3) (paired op env.sound_rate (operand p.now env a) (operand p.now env b))) }
-    ensures refused { OnErr result (IsAsBefore heap.old heap.new) }
+    requires built_first { built p.now a.0 ≡ true }
+    requires built_second { built p.now b.0 ≡ true }
+    requires names { AreNamed heap.old binds.now.names }
+    ensures turn { IfOk result (λ s. (n : ℕ) → max a.0 b.0 < n → OperationTurn (Evaluates p.now n) p.now op a b env binds.now.names heap.old heap.new s) }
+    ensures refused { OnErr result (Hand heap.old heap.new []) }
 {
-    lawful(heap);
-    let left = sample(alloc, p, a)?;
-    let right = sample(alloc, p, b)?;
-    match left {
-        Some(k) => {
-            let make = Make::Pair(op, Some(k), None);
-            Ok(at_sound_rate(alloc, p, make, b, env, heap)?)
-        }
-        None => match right {
-            Some(k) => {
-                let make = Make::Pair(op, None, Some(k));
-                Ok(at_sound_rate(alloc, p, make, a, env, heap)?)
-            }
-            None => Ok(both(alloc, p, op, a, b, env, heap)?),
-        },
-    }
-}
-
-/// A unit that computes this of the sound of an expression, in an environment, once that was brought to
-/// the environment's sound rate.
-///
-/// # Errors
-/// `AllocError` where memory is missing. The heap is then as before.
-#[cycle(eval)]
-fn at_sound_rate<B>(
-    alloc: Global,
-    p: &Program,
-    make: Make,
-    e: ExprId,
-    env: Env,
-    heap: &mut Heap<B>,
-) -> Result<Sound, AllocError>
-    requires inside { e.0 < length p.now.nodes }
-    requires built { built p.now e.0 ≡ SoundKind }
-    requires made { IsSingle make }
-    ensures turns { IfOk result (λ s. Turns heap.old heap.new s (2 * e.0 + 3) (made_with make (resampled env.sound_rate (meaning p.now e.0 env [])))) }
-    ensures refused { OnErr result (IsAsBefore heap.old heap.new) }
-{
+    p.order_law();
     lawful(heap);
     let rate = env.sound_rate;
-    let sound = eval(alloc, p, e, env, heap)?;
-    Ok(brought_single(alloc, make, sound, rate, heap)?)
-}
-
-/// The sounds of two expressions, in an environment, by an operation, each brought to the environment's
-/// sound rate.
-///
-/// # Errors
-/// `AllocError` where memory is missing. The heap is then as before.
-#[cycle(eval)]
-fn both<B>(
-    alloc: Global,
-    p: &Program,
-    op: Op,
-    a: ExprId,
-    b: ExprId,
-    env: Env,
-    heap: &mut Heap<B>,
-) -> Result<Sound, AllocError>
-    requires first { a.0 < length p.now.nodes }
-    requires second { b.0 < length p.now.nodes }
-    requires built_first { built p.now a.0 ≡ SoundKind }
-    requires built_second { built p.now b.0 ≡ SoundKind }
-    ensures turns { IfOk result (λ s. Turns heap.old heap.new s (2 * max a.0 b.0 + 3) (combined (both_timing op) (operation op) (resampled env.sound_rate (meaning p.now a.0 env [])) (resampled env.sound_rate (meaning p.now b.0 env [])))) }
-    ensures refused { OnErr result (IsAsBefore heap.old heap.new) }
-{
-    lawful(heap);
-    let rate = env.sound_rate;
-    let first = eval(alloc, p, a, env.copy(alloc)?, heap)?;
-    match eval(alloc, p, b, env, heap) {
-        Ok(second) => Ok(together(alloc, op, first, second, rate, heap)?),
+    let left = operand(alloc, p, a, env.copy(alloc)?, binds, heap)?;
+    match operand(alloc, p, b, env, binds, heap) {
+        Ok(right) => Ok(joined(alloc, op, left, right, rate, heap)?),
         Err(fault) => {
-            heap.release(first);
+            give_up(left, heap);
             Err(fault)
         }
     }
+}
+
+/// An operand with the other sign, in an environment: 0 minus it.
+///
+/// # Errors
+/// `AllocError` where memory is missing. The heap is then as before.
+#[cycle(evaluate)]
+fn negated(
+    alloc: Global,
+    p: &Program,
+    a: ExprId,
+    env: Env,
+    binds: &Binds<Sound>,
+    heap: &mut Heap<Branch>,
+) -> Result<Sound, AllocError>
+    requires inside { a.0 < length p.now.nodes }
+    requires built { built p.now a.0 ≡ true }
+    requires names { AreNamed heap.old binds.now.names }
+    ensures turn { IfOk result (λ s. (n : ℕ) → a.0 < n → SignTurn (Evaluates p.now n) p.now a env binds.now.names heap.old heap.new s) }
+    ensures refused { OnErr result (Hand heap.old heap.new []) }
+{
+    p.order_law();
+    lawful(heap);
+    let rate = env.sound_rate;
+    let value = operand(alloc, p, a, env, binds, heap)?;
+    Ok(joined(alloc, Op::Sub, Value::Number(Fix::of(0)), value, rate, heap)?)
 }
 
 /// An effect on the sound of an expression, in an environment, at that sound's own rate.
 ///
 /// # Errors
 /// `AllocError` where memory is missing. The heap is then as before.
-#[cycle(eval)]
-fn affected<B>(
+#[cycle(evaluate)]
+fn affected(
     alloc: Global,
     p: &Program,
     e: ExprId,
@@ -174,18 +203,48 @@ fn affected<B>(
     part: ExprId,
     parts: &[ExprId],
     env: Env,
-    heap: &mut Heap<B>,
+    binds: &Binds<Sound>,
+    heap: &mut Heap<Branch>,
 ) -> Result<Sound, AllocError>
     requires inside { e.0 < length p.now.nodes }
     requires part { part.0 < length p.now.nodes }
-    requires built { built p.now part.0 ≡ SoundKind }
+    requires built { built p.now part.0 ≡ true }
     requires below { AllBelow e.0 parts.now }
-    ensures turns { IfOk result (λ s. Turns heap.old heap.new s (2 * part.0 + 2) (effect_sound effect (map (λ e. number_of p.now e []) parts.now) (meaning p.now part.0 env []))) }
-    ensures refused { OnErr result (IsAsBefore heap.old heap.new) }
+    requires names { AreNamed heap.old binds.now.names }
+    ensures turn { IfOk result (λ s. (n : ℕ) → part.0 < n → EffectTurn (Evaluates p.now n) effect part (numbers_in p.now binds.now.names parts.now) env binds.now.names heap.old heap.new s) }
+    ensures refused { OnErr result (Hand heap.old heap.new []) }
 {
+    p.order_law();
     lawful(heap);
-    let numbers = numbers(alloc, p, e, parts)?;
-    let sound = eval(alloc, p, part, env, heap)?;
+    let numbers = numbers(alloc, p, e, parts, binds)?;
+    let sound = evaluate(alloc, p, part, env, binds, heap)?;
     let make = make_of(effect, numbers.as_slice(), sound.timing.rate);
     Ok(single(alloc, make, sound, heap)?)
+}
+
+/// The sound that an expression is, in an environment, as a sound of the heap
+/// (`docs/DEFINITIONS.md`, "The trace of an evaluation"). A number and a test are silent.
+///
+/// # Errors
+/// `AllocError` where memory is missing. The heap is then as before.
+pub fn eval(
+    alloc: Global,
+    p: &Program,
+    e: ExprId,
+    env: Env,
+    binds: &Binds<Sound>,
+    heap: &mut Heap<Branch>,
+) -> Result<Sound, AllocError>
+    requires inside { e.0 < length p.now.nodes }
+    requires built { built p.now e.0 ≡ true }
+    requires names { AreNamed heap.old binds.now.names }
+    ensures evaluates { IfOk result (λ s. Evaluates p.now (e.0 + 1) e.0 env binds.now.names heap.old heap.new s) }
+    ensures means { IfOk result (λ s. Comes (part_is p.now) heap.old heap.new (item s (λ w. meaning p.now e.0 env (bound_in w binds.now.names)) ∷ [])) }
+    ensures rises { IfOk result (λ s. (rank : ℕ → ℕ) (base : ℕ) → Ranks stack_of heap.old rank → AreLow rank base (sounds_among binds.now.names) → Stands stack_of heap.old heap.new rank (base + stack_of e.0) (s ∷ [])) }
+    ensures settles { IfOk result (λ s. IsSettled heap.old → IsSettled heap.new) }
+    ensures refused { OnErr result (Hand heap.old heap.new []) }
+{
+    p.order_law();
+    lawful(heap);
+    Ok(evaluate(alloc, p, e, env, binds, heap)?)
 }

@@ -1,26 +1,30 @@
-ghost use Rattle.std.specs.Prelude.{◌≡◌, ℕ, ◌<◌, ◌≤◌, length, map, [], IfOk, OnErr};
+ghost use Rattle.std.specs.Prelude.{◌≡◌, ℕ, ◌<◌, ◌≤◌, length, [], pos, IfOk, OnErr};
 ghost use Rattle.ny_num.specs.Leaves.{leaf};
 ghost use Rattle.ny_num.specs.Sound.{IsTiming};
 ghost use Rattle.ny_check.specs.Code.{AllBelow};
 ghost use Rattle.ny_check.specs.Families.{leaf_sound, leaf_time};
-ghost use Rattle.ny_check.specs.Values.{number_of};
+ghost use Rattle.ny_heap.specs.Heap.{Made};
 ghost use Rattle.ny_heap.specs.Reach.{HeapLaws};
+ghost use Rattle.ny_heap.specs.declared.make.Make.TheVariants.{Leaf as MakesLeaf};
 ghost use Rattle.ny_units.specs.Playing.{leaf_value, IsLeaf, Reaches};
-ghost use Rattle.ny_eval.specs.Turns.{Turns, IsAsBefore};
+ghost use Rattle.ny_hands.specs.Calls.{MakesUnit, IsSilent};
+ghost use Rattle.ny_hands.specs.Hands.{Hand, GivesUp};
+ghost use Rattle.ny_trace.specs.Evaluates.{LeafTurn, numbers_in};
 
 use crate::envelope::knots;
 use crate::values::numbers;
 use ny_check::operations::number_at;
-use ny_check::{ExprId, Generator, Program};
+use ny_check::{Binds, ExprId, Generator, Program};
+use ny_hands::Branch;
 use ny_heap::{Heap, Leaf, Make, Sound};
 use ny_num::pitch::{increment, key_hz, key_of, seed_of};
-use ny_num::{Fix, Sample, Timing};
+use ny_num::{Fix, Rate, Sample, Ticks, Timing};
 use ny_timing::leaf_time;
 use ny_warp::Env;
 use std::alloc::{AllocError, Global};
 
 /// Shows what holds of each heap between two calls.
-pub(crate) fn lawful<B>(heap: &Heap<B>)
+pub(crate) fn lawful(heap: &Heap<Branch>)
     ensures { HeapLaws heap.now }
 {
     let _free = heap.free();
@@ -31,19 +35,39 @@ pub(crate) fn lawful<B>(heap: &Heap<B>)
 ///
 /// # Errors
 /// `AllocError` where memory is missing. The heap is then as before.
-pub(crate) fn play<B>(
+fn play(
     alloc: Global,
     played: Leaf,
     timing: Timing,
-    heap: &mut Heap<B>,
+    heap: &mut Heap<Branch>,
 ) -> Result<Sound, AllocError>
     requires heard { 0 < timing.len → IsLeaf played × Reaches played timing.len }
     requires bounds { IsTiming timing }
-    ensures turns { IfOk result (λ s. (height : ℕ) → Turns heap.old heap.new s height (leaf timing (leaf_value played))) }
-    ensures refused { OnErr result (IsAsBefore heap.old heap.new) }
+    ensures makes { IfOk result (λ s. MakesUnit heap.old heap.new (Made (MakesLeaf played)) timing [] [] [] s) }
+    ensures gives_up { OnErr result (GivesUp heap.old heap.new []) }
 {
-    lawful(heap);
     heap.make(alloc, Make::Leaf(played), Vec::new(alloc), timing)
+}
+
+/// No sound, at this rate.
+///
+/// # Errors
+/// `AllocError` where memory is missing. The heap is then as before.
+pub(crate) fn silent(
+    alloc: Global,
+    rate: Rate,
+    heap: &mut Heap<Branch>,
+) -> Result<Sound, AllocError>
+    ensures silent { IfOk result (λ s. IsSilent heap.old heap.new rate s) }
+    ensures gives_up { OnErr result (GivesUp heap.old heap.new []) }
+{
+    let timing = Timing {
+        rate,
+        start: 0,
+        len: 0,
+        stop: Ticks::of(0),
+    };
+    play(alloc, Leaf::Const(Sample::ZERO), timing, heap)
 }
 
 /// The unit of a leaf of these numbers that is heard as `timing` says: a row for each.
@@ -95,22 +119,23 @@ fn unit_of(
 ///
 /// # Errors
 /// `AllocError` where memory is missing. The heap is then as before.
-pub(crate) fn make_leaf<B>(
+pub(crate) fn make_leaf(
     alloc: Global,
     p: &Program,
     e: ExprId,
     generator: Generator,
     parts: &[ExprId],
     env: &Env,
-    heap: &mut Heap<B>,
+    binds: &Binds<Sound>,
+    heap: &mut Heap<Branch>,
 ) -> Result<Sound, AllocError>
     requires inside { e.0 ≤ length p.now.nodes }
     requires below { AllBelow e.0 parts.now }
-    ensures turns { IfOk result (λ s. (height : ℕ) → Turns heap.old heap.new s height (leaf_sound generator env.now (map (λ e. number_of p.now e []) parts.now))) }
-    ensures refused { OnErr result (IsAsBefore heap.old heap.new) }
+    ensures turn { IfOk result (λ s. LeafTurn generator env.now (numbers_in p.now binds.now.names parts.now) heap.old heap.new s) }
+    ensures refused { OnErr result (Hand heap.old heap.new []) }
 {
     lawful(heap);
-    let numbers = numbers(alloc, p, e, parts)?;
+    let numbers = numbers(alloc, p, e, parts, binds)?;
     let timing = leaf_time(generator, env, numbers.as_slice());
     let unit = unit_of(alloc, generator, env, numbers.as_slice(), &timing)?;
     Ok(play(alloc, unit, timing, heap)?)

@@ -9,7 +9,6 @@ mod channels;
 mod envelope;
 mod expression;
 mod filter;
-mod inner;
 mod leaf;
 mod unit;
 mod values;

@@ -1,16 +1,21 @@
-//! Units over sounds that came into the caller's hands.
+//! Units over sounds in hand.
 
-ghost use Rattle.std.specs.Prelude.{◌≡◌, true, [], ◌∷◌, IfOk, OnErr};
-ghost use Rattle.ny_num.specs.Pointwise.{combined};
-ghost use Rattle.ny_num.specs.Resampling.{is_same_rate, resampled};
+ghost use Rattle.std.specs.Prelude.{◌≡◌, true, [], ◌∷◌, None, Some, IfOk, OnErr};
+ghost use Rattle.ny_num.specs.Resampling.{is_same_rate};
 ghost use Rattle.ny_num.specs.Sound.{IsTiming};
-ghost use Rattle.ny_kernels.specs.Operations.{operation};
+ghost use Rattle.ny_heap.specs.Heap.{Made};
 ghost use Rattle.ny_heap.specs.Steps.{IsMadeOf, both_timing};
-ghost use Rattle.ny_eval.specs.Made.{made_of, made_with, made_of_both, IsSingle};
-ghost use Rattle.ny_eval.specs.Turns.{InHands, BothInHands, Replaces, GivesUp, ReplacesBoth, GivesUpBoth};
+ghost use Rattle.ny_heap.specs.declared.make.Make.TheVariants.{Pair as PairMake};
+ghost use Rattle.ny_hands.specs.Calls.{MakesUnit, Brings};
+ghost use Rattle.ny_hands.specs.Hands.{InHand, GivesUp};
+ghost use Rattle.ny_hands.specs.Made.{IsSingle};
+ghost use Rattle.ny_trace.specs.Evaluates.{BothTurn, OneTurn, JoinTurn, sounds_of_values};
 
+use crate::leaf::silent;
+use ny_check::Value;
+use ny_hands::Branch;
 use ny_heap::{Heap, Make, Op, Sound};
-use ny_num::{Rate, Timing};
+use ny_num::{Rate, Sample, Timing};
 use ny_timing::{product_timing, resampled_timing, sum_timing};
 use std::alloc::{AllocError, Global};
 
@@ -18,18 +23,17 @@ use std::alloc::{AllocError, Global};
 ///
 /// # Errors
 /// `AllocError` where memory is missing. The sound is spent nevertheless.
-pub(crate) fn of_one<B>(
+fn of_one(
     alloc: Global,
     make: Make,
     sound: Sound,
     timing: Timing,
-    heap: &mut Heap<B>,
+    heap: &mut Heap<Branch>,
 ) -> Result<Sound, AllocError>
-    requires hands { InHands heap.old sound }
+    requires hands { InHand heap.old (sound ∷ []) }
     requires made { IsMadeOf make (sound ∷ []) timing }
-    ensures replaces { IfOk result (λ s. Replaces heap.old heap.new sound s 1 (made_of make timing)) }
-    ensures timing { IfOk result (λ s. s.timing ≡ timing) }
-    ensures gives_up { OnErr result (GivesUp heap.old heap.new sound 1) }
+    ensures makes { IfOk result (λ s. MakesUnit heap.old heap.new (Made make) timing (sound ∷ []) [] (sound ∷ []) s) }
+    ensures gives_up { OnErr result (GivesUp heap.old heap.new (sound ∷ [])) }
 {
     match Vec::with_capacity(alloc, 1) {
         Ok(room) => {
@@ -48,16 +52,16 @@ pub(crate) fn of_one<B>(
 ///
 /// # Errors
 /// `AllocError` where memory is missing. The sound is spent nevertheless.
-pub(crate) fn single<B>(
+pub(crate) fn single(
     alloc: Global,
     make: Make,
     sound: Sound,
-    heap: &mut Heap<B>,
+    heap: &mut Heap<Branch>,
 ) -> Result<Sound, AllocError>
-    requires hands { InHands heap.old sound }
+    requires hands { InHand heap.old (sound ∷ []) }
     requires made { IsSingle make }
-    ensures replaces { IfOk result (λ s. Replaces heap.old heap.new sound s 1 (made_with make)) }
-    ensures gives_up { OnErr result (GivesUp heap.old heap.new sound 1) }
+    ensures makes { IfOk result (λ s. MakesUnit heap.old heap.new (Made make) sound.timing (sound ∷ []) [] (sound ∷ []) s) }
+    ensures gives_up { OnErr result (GivesUp heap.old heap.new (sound ∷ [])) }
 {
     let timing = sound.timing;
     Ok(of_one(alloc, make, sound, timing, heap)?)
@@ -73,17 +77,16 @@ fn has_rate(timing: &Timing, rate: Rate) -> bool
 ///
 /// # Errors
 /// `AllocError` where memory is missing. The sound is spent nevertheless.
-pub(crate) fn brought<B>(
+pub(crate) fn brought(
     alloc: Global,
     sound: Sound,
     rate: Rate,
-    heap: &mut Heap<B>,
+    heap: &mut Heap<Branch>,
 ) -> Result<Sound, AllocError>
-    requires hands { InHands heap.old sound }
-    ensures replaces { IfOk result (λ s. Replaces heap.old heap.new sound s 1 (resampled rate)) }
-    ensures stays { is_same_rate sound.timing.rate rate ≡ true → heap.new ≡ heap.old }
+    requires hands { InHand heap.old (sound ∷ []) }
+    ensures brings { IfOk result (λ s. Brings heap.old heap.new rate sound s) }
     ensures rate { IfOk result (λ s. s.timing.rate ≡ rate) }
-    ensures gives_up { OnErr result (GivesUp heap.old heap.new sound 1) }
+    ensures gives_up { OnErr result (GivesUp heap.old heap.new (sound ∷ [])) }
 {
     if has_rate(&sound.timing, rate) {
         Ok(sound)
@@ -93,24 +96,26 @@ pub(crate) fn brought<B>(
     }
 }
 
-/// A unit that computes this of one sound, which is first brought to a rate, heard when that is.
+/// A sound and a number by an operation. The sound, which is spent, is first brought to the rate.
 ///
 /// # Errors
 /// `AllocError` where memory is missing. The sound is spent nevertheless.
-pub(crate) fn brought_single<B>(
+fn with_number(
     alloc: Global,
-    make: Make,
+    op: Op,
+    left: Option<Sample>,
+    right: Option<Sample>,
     sound: Sound,
     rate: Rate,
-    heap: &mut Heap<B>,
+    heap: &mut Heap<Branch>,
 ) -> Result<Sound, AllocError>
-    requires hands { InHands heap.old sound }
-    requires made { IsSingle make }
-    ensures replaces { IfOk result (λ s. Replaces heap.old heap.new sound s 2 (λ m. made_with make (resampled rate m))) }
-    ensures gives_up { OnErr result (GivesUp heap.old heap.new sound 2) }
+    requires hands { InHand heap.old (sound ∷ []) }
+    requires made { IsSingle (PairMake op left right) }
+    ensures turn { IfOk result (λ s. OneTurn op left right rate sound heap.old heap.new s) }
+    ensures gives_up { OnErr result (GivesUp heap.old heap.new (sound ∷ [])) }
 {
     let sound = brought(alloc, sound, rate, heap)?;
-    Ok(single(alloc, make, sound, heap)?)
+    Ok(single(alloc, Make::Pair(op, left, right), sound, heap)?)
 }
 
 /// When an operation on two sounds of one rate is heard.
@@ -131,17 +136,17 @@ fn both_timing(op: Op, a: &Timing, b: &Timing) -> Timing
 ///
 /// # Errors
 /// `AllocError` where memory is missing. Both sounds are spent nevertheless.
-fn of_two<B>(
+fn of_two(
     alloc: Global,
     op: Op,
     first: Sound,
     second: Sound,
-    heap: &mut Heap<B>,
+    heap: &mut Heap<Branch>,
 ) -> Result<Sound, AllocError>
-    requires hands { BothInHands heap.old first second }
+    requires hands { InHand heap.old (first ∷ second ∷ []) }
     requires rate { first.timing.rate ≡ second.timing.rate }
-    ensures replaces { IfOk result (λ s. ReplacesBoth heap.old heap.new first second s 1 (combined (both_timing op) (operation op))) }
-    ensures gives_up { OnErr result (GivesUpBoth heap.old heap.new first second 1) }
+    ensures makes { IfOk result (λ s. MakesUnit heap.old heap.new (Made (PairMake op None None)) (both_timing op first.timing second.timing) (first ∷ second ∷ []) [] (first ∷ second ∷ []) s) }
+    ensures gives_up { OnErr result (GivesUp heap.old heap.new (first ∷ second ∷ [])) }
 {
     let timing = both_timing(op, &first.timing, &second.timing);
     match Vec::with_capacity(alloc, 2) {
@@ -164,17 +169,17 @@ fn of_two<B>(
 ///
 /// # Errors
 /// `AllocError` where memory is missing. Both sounds are spent nevertheless.
-pub(crate) fn together<B>(
+fn together(
     alloc: Global,
     op: Op,
     first: Sound,
     second: Sound,
     rate: Rate,
-    heap: &mut Heap<B>,
+    heap: &mut Heap<Branch>,
 ) -> Result<Sound, AllocError>
-    requires hands { BothInHands heap.old first second }
-    ensures replaces { IfOk result (λ s. ReplacesBoth heap.old heap.new first second s 2 (λ m n. combined (both_timing op) (operation op) (resampled rate m) (resampled rate n))) }
-    ensures gives_up { OnErr result (GivesUpBoth heap.old heap.new first second 2) }
+    requires hands { InHand heap.old (first ∷ second ∷ []) }
+    ensures turn { IfOk result (λ s. BothTurn op rate first second heap.old heap.new s) }
+    ensures gives_up { OnErr result (GivesUp heap.old heap.new (first ∷ second ∷ [])) }
 {
     match brought(alloc, first, rate, heap) {
         Ok(left) => match brought(alloc, second, rate, heap) {
@@ -188,5 +193,48 @@ pub(crate) fn together<B>(
             heap.release(second);
             Err(fault)
         }
+    }
+}
+
+/// Two operands by an operation: two sounds, a sound and a number, or two numbers, which are no sound.
+/// The sounds are spent.
+///
+/// # Errors
+/// `AllocError` where memory is missing. The sounds are spent nevertheless.
+pub(crate) fn joined(
+    alloc: Global,
+    op: Op,
+    left: Value<Sound>,
+    right: Value<Sound>,
+    rate: Rate,
+    heap: &mut Heap<Branch>,
+) -> Result<Sound, AllocError>
+    requires hands { InHand heap.old (sounds_of_values (left ∷ right ∷ [])) }
+    ensures turn { IfOk result (λ s. JoinTurn op rate left right heap.old heap.new s) }
+    ensures gives_up { OnErr result (GivesUp heap.old heap.new (sounds_of_values (left ∷ right ∷ []))) }
+{
+    match left {
+        Value::Number(j) => match right {
+            Value::Number(_) => Ok(silent(alloc, rate, heap)?),
+            Value::Sound(b) => {
+                Ok(with_number(alloc, op, Some(Sample::of_fix(j)), None, b, rate, heap)?)
+            }
+        },
+        Value::Sound(a) => match right {
+            Value::Number(k) => {
+                Ok(with_number(alloc, op, None, Some(Sample::of_fix(k)), a, rate, heap)?)
+            }
+            Value::Sound(b) => Ok(together(alloc, op, a, b, rate, heap)?),
+        },
+    }
+}
+
+/// Gives up an operand.
+pub(crate) fn give_up(value: Value<Sound>, heap: &mut Heap<Branch>)
+    requires hands { InHand heap.old (sounds_of_values (value ∷ [])) }
+    ensures gives_up { GivesUp heap.old heap.new (sounds_of_values (value ∷ [])) }
+{
+    if let Value::Sound(sound) = value {
+        heap.release(sound);
     }
 }

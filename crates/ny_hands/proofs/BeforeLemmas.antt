@@ -10,7 +10,7 @@ use Rattle.ny_hands.specs.Hands.{marks_at, IsLike, Hand}
 use Rattle.ny_hands.proofs.HandLemmas.{marks_there}
 
 -- a reader outside that is there was there before
-some_mark : (ns : List ℕ) → 0 < sum ns → (j : ℕ) × (0 < slice_index ns j)
+pub some_mark : (ns : List ℕ) → 0 < sum ns → (j : ℕ) × (0 < slice_index ns j)
 some_mark ns some = from 0 ns some
   where
     from : (a : ℕ) (ns : List ℕ) → a < fold ◌+◌ a ns → (j : ℕ) × (0 < slice_index ns j)

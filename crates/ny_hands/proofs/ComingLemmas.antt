@@ -1,5 +1,5 @@
 -- What the sounds in hand are, step by step.
-use Rattle.std.proofs.Common.{◌≡◌, ◌≢◌, inl, inr, ℕ, true, false, if◌then◌else◌, nat_lt, List, [], ◌∷◌, ◌++◌, length, take, Option, None, Some, refl, sym, ap, subst, ◌∙◌, arith, ℤ}
+use Rattle.std.proofs.Common.{◌≡◌, ◌≢◌, inl, inr, ℕ, true, false, if◌then◌else◌, nat_lt, List, [], ◌∷◌, ◌++◌, length, take, Option, None, Some, refl, sym, ap, subst, ◌∙◌, arith, ℤ, pos}
 use Rattle.std.proofs.lemmas.Bool.Decides.{eqb_tells}
 use Rattle.std.proofs.lemmas.List.{length-take}
 use Rattle.ny_num.specs.declared.timing.Timing.{Timing}
@@ -7,8 +7,9 @@ use Rattle.ny_num.specs.declared.rate.Rate.{Rate}
 use Rattle.ny_num.specs.Sound as sounds
 use Rattle.ny_num.specs.Sound.{IsTiming, timing_of, sound_of}
 use Rattle.ny_num.specs.Resampling.{is_same_rate, other_rate_timing, resampled}
+use Rattle.ny_units.specs.declared.leaves.Leaf.TheVariants.{Const}
 use Rattle.ny_heap.specs.declared.sound.Sound.{Sound}
-use Rattle.ny_heap.specs.declared.make.Make.TheVariants.{Resample}
+use Rattle.ny_heap.specs.declared.make.Make.TheVariants.{Leaf, Resample}
 use Rattle.ny_heap.specs.Heap.{Kind, Made, Node, Waiting, HeapState, node_at, list_of}
 use Rattle.ny_heap.specs.Means.{Parts, Whole, Means, Extends, sound_in, with_samples, whole_list, unit_value}
 use Rattle.ny_heap.specs.Reach.{HeapLaws}
@@ -138,23 +139,6 @@ comes_shared part old new a s laws b step = record {
   );
 }
 
-silent_bounds : (r : Rate) → IsTiming (record { rate = r; start = 0; len = 0; stop = 0 })
-unfolding Rattle.ny_num.specs.Grid.tick_at
-silent_bounds r = record { ends = omega arith; stops = omega arith; starts = omega arith }
-
-pub comes_silent : {B : Type 0} (part : Parts B) (old new : HeapState B) (r : Rate) (s : Sound) → HeapLaws old → IsSilent old new r s → Comes part old new (item s (λ w. sounds.silence r) ∷ [])
-unfolding Rattle.ny_num.specs.Sound.silence
-comes_silent {B} part old new r s laws step = subst (λ (h : HeapState B). Comes part old h (item s (λ w. sounds.silence r) ∷ [])) step.heap (record {
-  hand = record {
-    laws = laws;
-    counts = (hand_none old laws).counts;
-    kept = λ v x at. (x, at, refl);
-    marks = λ v j. omega (arith, ap (λ o. mark_in o v j) step.list);
-    begin = (record { bounds = subst IsTiming (sym step.timing) (silent_bounds r); place = step.begins; empty = λ e. ap (λ (t : Timing). t.len) step.timing; shown = λ n is. absurd (none_some (list_of s) n step.list is) }, tt);
-  };
-  means = λ w means. (record { later = w; means = means; extends = λ v x at. refl; owes = λ v x at. refl }, ((λ i. sound_in w.samples (step.list i) (step.timing i)), tt));
-})
-
 pub comes_made : {B : Type 0} (part : Parts B) (old mid new : HeapState B) (kind : Kind) (t : Timing) (inputs : List Sound) (waiting : List (Waiting B)) (spent : List Sound) (ps qs : List Item) (s : Sound) (m : Whole → sounds.Sound) → HeapLaws old → spent ≡ sounds_in ps → Comes part old mid (ps ++ qs) → MakesUnit mid new kind t inputs waiting spent s → ((w l : Whole) → Means part mid l → Extends old w l → AllBegin mid (sounds_in ps) → Are w l ps → sound_of t (unit_value kind t (first_memory kind inputs) t.start (made_inputs part l t.rate inputs waiting)) ≡ m w) → Comes part old new (item s m ∷ qs)
 comes_made {B} part old mid new kind t inputs waiting spent ps qs s m laws is c step hears = record {
   hand = hand_made old mid new kind t inputs waiting spent (sounds_in qs) s laws held step;
@@ -223,6 +207,12 @@ comes_made {B} part old mid new kind t inputs waiting spent ps qs s m laws is c 
 
         is_made : (o : Option ℕ) → list_of s ≡ o → sound_in (with_list l.later (list_of s) (samples l.later)).samples (list_of s) s.timing ≡ m w
         is_made o f = ap (λ q. sound_in (with_list l.later (list_of s) (samples l.later)).samples (list_of s) q) step.makes.result.timing ∙ is_at (list_of s) refl
+
+-- no sound
+pub comes_silent : {B : Type 0} (part : Parts B) (old new : HeapState B) (r : Rate) (s : Sound) → HeapLaws old → IsSilent old new r s → Comes part old new (item s (λ w. sounds.silence r) ∷ [])
+unfolding Rattle.ny_num.specs.Sound.silence Rattle.ny_num.specs.Sound.sound_of
+comes_silent part old new r s laws step =
+    comes_made part old old new (Made (Leaf (Const (pos 0)))) (record { rate = r; start = 0; len = 0; stop = 0 }) [] [] [] [] [] s (λ w. sounds.silence r) laws refl (comes_none part old laws) step (λ w l means extends begin are. refl)
 
 -- ---- a sound that is brought to a rate
 

@@ -1,5 +1,6 @@
 -- What a call does for sounds in hand: it can spend them, it gives them up, or one comes in the place of another.
-use Rattle.std.proofs.Common.{◌≡◌, List, [], ◌∷◌, sym, subst}
+use Rattle.std.proofs.Common.{◌≡◌, List, [], ◌∷◌, ◌++◌, sym, subst}
+use Rattle.std.proofs.lemmas.List.{append-nil}
 use Rattle.ny_num.specs.Sound.{IsTiming}
 use Rattle.ny_num.specs.declared.rate.Rate.{Rate}
 use Rattle.ny_num.specs.declared.timing.Timing.{Timing}
@@ -59,14 +60,19 @@ gives_up_brought old mid new r a s b step gives before others laws hand =
 pub gives_up_swapped : {B : Type 0} (old new : HeapState B) (a b : Sound) → GivesUp old new (a ∷ b ∷ []) → GivesUp old new (b ∷ a ∷ [])
 gives_up_swapped old new a b gives before others laws hand = gives before others laws (hand_swap before old b a others hand)
 
-pub both_in_hand : {B : Type 0} (old mid new : HeapState B) (a b : Sound) → HeapLaws old → Hand old mid (a ∷ []) → Hand mid new (b ∷ []) → InHand new (a ∷ b ∷ [])
-both_in_hand old mid new a b laws first second = record { before = old; others = []; laws = laws; hand = hand_more old mid new (a ∷ []) (b ∷ []) first second }
+-- ---- one sound
 
-pub first_in_hand : {B : Type 0} (old mid new : HeapState B) (a : Sound) → HeapLaws old → Hand old mid (a ∷ []) → Hand mid new [] → InHand new (a ∷ [])
-first_in_hand old mid new a laws first second = record { before = old; others = []; laws = laws; hand = hand_more old mid new (a ∷ []) [] first second }
+pub brought_in_hand : {B : Type 0} (old new : HeapState B) (r : Rate) (a s : Sound) → InHand old (a ∷ []) → Brings old new r a s → InHand new (s ∷ [])
+brought_in_hand old new r a s is step = record { before = is.before; others = is.others; laws = is.laws; hand = hand_brought is.before old new r a s is.others is.laws is.hand step }
 
-pub both_given_up : {B : Type 0} (old mid end new : HeapState B) (a b : Sound) → HeapLaws old → Hand old mid (a ∷ []) → Hand mid end (b ∷ []) → GivesUp end new (a ∷ b ∷ []) → Hand old new []
-both_given_up old mid end new a b laws first second gives = gives old [] laws (hand_more old mid end (a ∷ []) (b ∷ []) first second)
+pub gives_up_alone : {B : Type 0} (old mid new : HeapState B) (r : Rate) (a s : Sound) → Brings old mid r a s → GivesUp mid new (s ∷ []) → GivesUp old new (a ∷ [])
+gives_up_alone old mid new r a s step gives before others laws hand = gives before others laws (hand_brought before old mid r a s others laws hand step)
 
-pub first_given_up : {B : Type 0} (old mid end new : HeapState B) (a : Sound) → HeapLaws old → Hand old mid (a ∷ []) → Hand mid end [] → GivesUp end new (a ∷ []) → Hand old new []
-first_given_up old mid end new a laws first second gives = gives old [] laws (hand_more old mid end (a ∷ []) [] first second)
+-- ---- all that came
+
+-- what came into hand is in hand, and can be given up
+pub all_in_hand : {B : Type 0} (old new : HeapState B) (ss : List Sound) → HeapLaws old → Hand old new ss → InHand new ss
+all_in_hand old new ss laws hand = record { before = old; others = []; laws = laws; hand = subst (λ zs. Hand old new zs) (sym (append-nil ss)) hand }
+
+pub all_given_up : {B : Type 0} (old mid new : HeapState B) (ss : List Sound) → HeapLaws old → Hand old mid ss → GivesUp mid new ss → Hand old new []
+all_given_up old mid new ss laws hand gives = gives old [] laws (subst (λ zs. Hand old mid zs) (sym (append-nil ss)) hand)

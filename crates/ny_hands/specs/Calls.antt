@@ -1,11 +1,12 @@
 -- The calls of a heap that evaluation makes, each with all that it promises: the steps of a trace.
-use Rattle.std.specs.Prelude.{◌≡◌, ◌<◌, true, false, if◌then◌else◌, nat_lt, List, [], ◌∷◌, take, None}
+use Rattle.std.specs.Prelude.{◌≡◌, ◌<◌, true, false, if◌then◌else◌, nat_lt, List, [], ◌∷◌, take, None, pos}
 use Rattle.ny_num.specs.declared.timing.Timing.{Timing}
 use Rattle.ny_num.specs.declared.rate.Rate.{Rate}
 use Rattle.ny_num.specs.Sound as sounds
 use Rattle.ny_num.specs.Sound.{IsTiming, timing_of}
 use Rattle.ny_num.specs.Resampling.{is_same_rate, other_rate_timing}
-use Rattle.ny_heap.specs.declared.make.Make.TheVariants.{Resample}
+use Rattle.ny_units.specs.declared.leaves.Leaf.TheVariants.{Const}
+use Rattle.ny_heap.specs.declared.make.Make.TheVariants.{Leaf, Resample}
 use Rattle.ny_heap.specs.declared.sound.Sound.{Sound}
 use Rattle.ny_heap.specs.Heap.{Kind, Made, Waiting, HeapState, list_of, place_of}
 use Rattle.ny_heap.specs.Means.{KeepsMeaning}
@@ -78,9 +79,6 @@ BringsEach old new r [] (t ∷ ts) = ⊥
 BringsEach old new r (s ∷ ss) [] = ⊥
 BringsEach {B} old new r (s ∷ ss) (t ∷ ts) = (mid : HeapState B) × Brings old mid r s t × BringsEach mid new r ss ts
 
--- no sound: nothing is heard
-pub record IsSilent {B : Type 0} (old new : HeapState B) (r : Rate) (s : Sound) : Type 0 where
-  pub heap : old ≡ new
-  pub timing : s.timing ≡ record { rate = r; start = 0; len = 0; stop = 0 }
-  pub list : list_of s ≡ None
-  pub begins : place_of s ≡ 0
+-- no sound: nothing is heard. It is what a leaf without a sample gives, of which no unit is made
+abbrev pub IsSilent : {B : Type 0} → HeapState B → HeapState B → Rate → Sound → Type 0
+IsSilent old new r s = MakesUnit old new (Made (Leaf (Const (pos 0)))) (record { rate = r; start = 0; len = 0; stop = 0 }) [] [] [] s

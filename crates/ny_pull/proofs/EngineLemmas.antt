@@ -8,6 +8,7 @@ use Rattle.ny_heap.specs.Means.{Parts, Whole, Means, KeepsMeaning, sound_in}
 use Rattle.ny_heap.specs.Reach.{HeapLaws, IsTrimmed}
 use Rattle.ny_heap.specs.Steps.{Passes, advanced}
 use Rattle.ny_heap.specs.declared.sound.Sound.{Sound}
+use Rattle.ny_hands.specs.declared.branch.Branch.{Branch}
 use Rattle.ny_num.specs.Sound as sounds
 use Rattle.ny_num.specs.Sound.{silence, sound_of, spanning, timing_of}
 use Rattle.ny_num.specs.Grid.{last_index}
@@ -30,7 +31,7 @@ use Rattle.ny_eval.proofs.BelowLemmas.{some_same, some_there}
 use Rattle.ny_pull.proofs.PlayLemmas.{open_of, stopped, stopped_open, over_then, over_size}
 
 -- the state of an engine of one channel
-abbrev pub state : Code → Rate → Option Sound → ℕ → Option PullFault → HeapState (Unit {0}) → EngineState
+abbrev pub state : Code → Rate → Option Sound → ℕ → Option PullFault → HeapState Branch → EngineState
 state code rate o pulls spent h = record { code = code; rate = rate; channels = o ∷ []; pulled = pulls ∷ []; spent = spent; heap = h }
 
 nil_of : {A : Type 0} (xs : List A) → length xs ≡ 0 → xs ≡ []
@@ -59,7 +60,7 @@ pub none_spent : (o : Option PullFault) (fault : PullFault) → o ≡ None → o
 none_spent o fault p q = cc
 
 -- where no block is free all are taken
-pub all_taken : (h : HeapState (Unit {0})) (live : ℕ) → live ≡ live_of h → live ≤ h.pool → free_of h ≡ 0 → live ≡ h.pool
+pub all_taken : (h : HeapState Branch) (live : ℕ) → live ≡ live_of h → live ≤ h.pool → free_of h ≡ 0 → live ≡ h.pool
 all_taken h live counted within full = omega (arith, counted, within, full)
 
 -- what is left of a sound that was read as far as its unit is filled
@@ -75,7 +76,7 @@ left_size mid new s None leaves = over_size mid new s leaves.1
 left_size mid new s (Some rest) leaves = (ap (λ (h : HeapState _). h.pool) leaves.2, ap (λ (h : HeapState _). h.block) leaves.2)
 
 -- an engine that was just opened
-pub begins_inside : (code : Code) (rate : Rate) (mid h : HeapState (Unit {0})) (opened : List Sound) (s : Sound) (o : Option Sound) → AreOpened code rate mid opened → opened ≡ s ∷ [] → HeapLaws h → Leaves mid h s o → IsEngineInside code rate h o s.timing.len 0 None
+pub begins_inside : (code : Code) (rate : Rate) (mid h : HeapState Branch) (opened : List Sound) (s : Sound) (o : Option Sound) → AreOpened code rate mid opened → opened ≡ s ∷ [] → HeapLaws h → Leaves mid h s o → IsEngineInside code rate h o s.timing.len 0 None
 begins_inside code rate mid h opened s o are only laws leaves =
     let is : are.sound ≡ s = first_same are.sound s (sym are.only ∙ only) in
     let playing : IsPlaying mid s are.channel.samples 0 0 (height_of code) = subst (λ x. IsPlaying mid x are.channel.samples 0 0 (height_of code)) is are.plays in
@@ -95,7 +96,7 @@ pub under_way : {B : Type 0} (h : HeapState B) (o : Option Sound) (s : Sound) (x
 under_way h o s xs pulls left is still = subst (λ q. IsStill h q xs pulls left) is still
 
 -- a fault spends the engine
-pub spends : (code : Code) (rate : Rate) (h new : HeapState (Unit {0})) (o : Option Sound) (s : Sound) (frames pulls live : ℕ) (spent : Option PullFault) (u : ℕ) → IsEngineInside code rate h o frames pulls spent → o ≡ Some s → open_unit h (list_of s) ≡ Some u → HeapLaws new → IsSettled new → ((rank : ℕ → ℕ) → IsRank h rank → Below h new rank (rank u)) → ComesFrom h new → KeepsMeaning h new → live ≡ live_of new → live ≡ new.pool → IsEngineInside code rate new (Some s) frames pulls (Some (PoolFull pulls live))
+pub spends : (code : Code) (rate : Rate) (h new : HeapState Branch) (o : Option Sound) (s : Sound) (frames pulls live : ℕ) (spent : Option PullFault) (u : ℕ) → IsEngineInside code rate h o frames pulls spent → o ≡ Some s → open_unit h (list_of s) ≡ Some u → HeapLaws new → IsSettled new → ((rank : ℕ → ℕ) → IsRank h rank → Below h new rank (rank u)) → ComesFrom h new → KeepsMeaning h new → live ≡ live_of new → live ≡ new.pool → IsEngineInside code rate new (Some s) frames pulls (Some (PoolFull pulls live))
 spends code rate h new o s frames pulls live spent u inside some e laws settled below comes keeps counted full =
     let xs = inside.channel.samples in
     let way = under_way h o s inside.channel.samples pulls (height_of code) some inside.still in
@@ -113,7 +114,7 @@ spends code rate h new o s frames pulls live spent u inside some e laws settled 
     }
 
 -- the fault of an engine with all blocks taken
-pub full_now : (code : Code) (rate : Rate) (o : Option Sound) (pulls : ℕ) (spent : Option PullFault) (h : HeapState (Unit {0})) (e : EngineState) → state code rate o pulls spent h ≡ e → (live : ℕ) (new : HeapState (Unit {0})) → live ≡ new.pool → new.pool ≡ h.pool → live ≡ live_of new → (PoolFull pulls live ≡ full_of e) × (live_of new ≡ new.pool)
+pub full_now : (code : Code) (rate : Rate) (o : Option Sound) (pulls : ℕ) (spent : Option PullFault) (h : HeapState Branch) (e : EngineState) → state code rate o pulls spent h ≡ e → (live : ℕ) (new : HeapState Branch) → live ≡ new.pool → new.pool ≡ h.pool → live ≡ live_of new → (PoolFull pulls live ≡ full_of e) × (live_of new ≡ new.pool)
 full_now code rate o pulls spent h e is live new all size counted =
     (ap (PoolFull pulls) (all ∙ size) ∙ whole ∙ ap full_of is, sym counted ∙ all)
   where
@@ -121,13 +122,13 @@ full_now code rate o pulls spent h e is live new all size counted =
     whole = ap (λ n. PoolFull n h.pool) (omega arith)
 
 -- what is read, whatever the waiting parts are
-pub read_gives : (h : HeapState (Unit {0})) (s : Sound) (xs : List ℤ) (pulls filled left n : ℕ) (before after : List ℤ) → IsPlaying h s xs pulls filled left → ((part : Parts (Unit {0})) (w : Whole) → Means part h w → after ≡ take n (drop (place_of s) (sound_in w.samples (list_of s) s.timing).samples) ++ drop n before) → after ≡ take n (drop (place_of s) xs) ++ drop n before
+pub read_gives : (h : HeapState Branch) (s : Sound) (xs : List ℤ) (pulls filled left n : ℕ) (before after : List ℤ) → IsPlaying h s xs pulls filled left → ((part : Parts Branch) (w : Whole) → Means part h w → after ≡ take n (drop (place_of s) (sound_in w.samples (list_of s) s.timing).samples) ++ drop n before) → after ≡ take n (drop (place_of s) xs) ++ drop n before
 read_gives h s xs pulls filled left n before after playing reads =
-    let part : Parts (Unit {0}) = λ branch captured stop. sound_in (λ v. []) None s.timing in
+    let part : Parts Branch = λ branch captured stop. sound_in (λ v. []) None s.timing in
     let w = playing.heard part in
     reads part w.whole w.means ∙ ap (λ ys. take n (drop (place_of s) ys) ++ drop n before) w.samples
 
-module _ (code : Code) (rate : Rate) (o : Option Sound) (pulls : ℕ) (spent : Option PullFault) (h : HeapState (Unit {0})) (e : EngineState) (is : state code rate o pulls spent h ≡ e) (c : ℕ) (channel : c < length e.channels) where
+module _ (code : Code) (rate : Rate) (o : Option Sound) (pulls : ℕ) (spent : Option PullFault) (h : HeapState Branch) (e : EngineState) (is : state code rate o pulls spent h ≡ e) (c : ℕ) (channel : c < length e.channels) where
   zeroth : c ≡ 0
   zeroth = omega (arith, channel, ap (λ (e : EngineState). length e.channels) is)
 
@@ -145,7 +146,7 @@ module _ (code : Code) (rate : Rate) (o : Option Sound) (pulls : ℕ) (spent : O
   was_pulled : (s : Sound) → o ≡ Some s → slice_get e.channels c ≡ Some (Some s)
   was_pulled s some = (λ i. slice_get (sym is i).channels (zeroth i)) ∙ ap Some some
 
-  pub gives : (s to : Sound) (unit deep n : ℕ) (order : List ℕ) (mid read new : HeapState (Unit {0})) (left : Option Sound) (spent_now : Option PullFault) → o ≡ Some s → open_unit h (list_of s) ≡ Some unit → FillsInOrder deep h unit order mid → Passes s to n → IsTrimmed (advanced mid s to) read → Leaves read new to left → GivesBlock e (state code rate left (pulls + 1) spent_now new) c n
+  pub gives : (s to : Sound) (unit deep n : ℕ) (order : List ℕ) (mid read new : HeapState Branch) (left : Option Sound) (spent_now : Option PullFault) → o ≡ Some s → open_unit h (list_of s) ≡ Some unit → FillsInOrder deep h unit order mid → Passes s to n → IsTrimmed (advanced mid s to) read → Leaves read new to left → GivesBlock e (state code rate left (pulls + 1) spent_now new) c n
   gives s to unit deep n order mid read new left spent_now some opens fills passes reads leaves = record {
     before = s;
     was = was_pulled s some;
@@ -164,7 +165,7 @@ module _ (code : Code) (rate : Rate) (o : Option Sound) (pulls : ℕ) (spent : O
     now = sym (λ i. slice_set (sym is i).channels (zeroth i) left);
   }
 
-  pub stops : (s : Sound) (unit deep : ℕ) (order : List ℕ) (new : HeapState (Unit {0})) (spent_now : Option PullFault) → o ≡ Some s → open_unit h (list_of s) ≡ Some unit → StopsInOrder deep h unit order new → StopsAtFull e (state code rate (Some s) pulls spent_now new) c
+  pub stops : (s : Sound) (unit deep : ℕ) (order : List ℕ) (new : HeapState Branch) (spent_now : Option PullFault) → o ≡ Some s → open_unit h (list_of s) ≡ Some unit → StopsInOrder deep h unit order new → StopsAtFull e (state code rate (Some s) pulls spent_now new) c
   stops s unit deep order new spent_now some opens walk = record {
     before = s;
     was = was_pulled s some;
@@ -204,7 +205,7 @@ module _ (code : Code) (rate : Rate) (o : Option Sound) (pulls : ℕ) (spent : O
           let unit : needs.unit ≡ u = some_same _ _ (sym needs.«open» ∙ ((λ i. open_unit (sym is i).heap (list_of (same i))) ∙ opens)) in
           subst (λ (e : EngineState). FindsNoneFree e.heap u) (sym is) (subst (FindsNoneFree e.heap) unit needs.full)
 
-  pub same_piece : (to : Option Sound) (pulls_now : ℕ) (spent_now : Option PullFault) (new : HeapState (Unit {0})) → new.pool ≡ h.pool → new.block ≡ h.block → SamePiece e (state code rate to pulls_now spent_now new)
+  pub same_piece : (to : Option Sound) (pulls_now : ℕ) (spent_now : Option PullFault) (new : HeapState Branch) → new.pool ≡ h.pool → new.block ≡ h.block → SamePiece e (state code rate to pulls_now spent_now new)
   same_piece to pulls_now spent_now new pool block = record {
     code = ap (λ (e : EngineState). e.code) is;
     rate = ap (λ (e : EngineState). e.rate) is;
@@ -214,7 +215,7 @@ module _ (code : Code) (rate : Rate) (o : Option Sound) (pulls : ℕ) (spent : O
   }
 
 -- the one channel that the meaning of the program has
-module _ (code : Code) (rate : Rate) (o : Option Sound) (pulls : ℕ) (spent : Option PullFault) (h : HeapState (Unit {0})) (e : EngineState) (is : state code rate o pulls spent h ≡ e) (c : ℕ) (channel : c < length e.channels) (only : sounds.Sound) (one : channels code rate ≡ only ∷ []) where
+module _ (code : Code) (rate : Rate) (o : Option Sound) (pulls : ℕ) (spent : Option PullFault) (h : HeapState Branch) (e : EngineState) (is : state code rate o pulls spent h ≡ e) (c : ℕ) (channel : c < length e.channels) (only : sounds.Sound) (one : channels code rate ≡ only ∷ []) where
   samples_is : channel_at e c ≡ only.samples
   samples_is =
       (λ i. channel_at (sym is i) (zeroth code rate o pulls spent h e is c channel i))
@@ -249,7 +250,7 @@ module _ (code : Code) (rate : Rate) (o : Option Sound) (pulls : ℕ) (spent : O
   pub frames_is : (frames : ℕ) → frames ≡ length only.samples → frames ≡ length (channel_at e 0)
   frames_is frames len = len ∙ ap length (sym samples_is ∙ ap (channel_at e) (zeroth code rate o pulls spent h e is c channel))
 
-pub laws_inside : (code : Code) (rate : Rate) (h : HeapState (Unit {0})) (o : Option Sound) (frames pulls : ℕ) (spent : Option PullFault) (e : EngineState) → state code rate o pulls spent h ≡ e → IsEngineInside code rate h o frames pulls spent → HeapLaws e.heap
+pub laws_inside : (code : Code) (rate : Rate) (h : HeapState Branch) (o : Option Sound) (frames pulls : ℕ) (spent : Option PullFault) (e : EngineState) → state code rate o pulls spent h ≡ e → IsEngineInside code rate h o frames pulls spent → HeapLaws e.heap
 laws_inside code rate h o frames pulls spent e is inside = subst (λ (e : EngineState). HeapLaws e.heap) is (by_channel o inside.still)
   where
     by_channel : (q : Option Sound) → IsStill h q inside.channel.samples pulls (height_of code) → HeapLaws h
@@ -257,11 +258,11 @@ laws_inside code rate h o frames pulls spent e is inside = subst (λ (e : Engine
     by_channel (Some s) way = way.playing.laws
 
 -- nothing is left of a channel that has ended
-pub still_none : (code : Code) (rate : Rate) (h : HeapState (Unit {0})) (o q : Option Sound) (frames pulls : ℕ) (spent : Option PullFault) → o ≡ q → IsEngineInside code rate h o frames pulls spent → IsEngineInside code rate h q frames pulls spent
+pub still_none : (code : Code) (rate : Rate) (h : HeapState Branch) (o q : Option Sound) (frames pulls : ℕ) (spent : Option PullFault) → o ≡ q → IsEngineInside code rate h o frames pulls spent → IsEngineInside code rate h q frames pulls spent
 still_none code rate h o q frames pulls spent same inside = subst (λ q. IsEngineInside code rate h q frames pulls spent) same inside
 
 -- no list is read from outside but by what is still to be pulled
-pub read_by_channels : (code : Code) (rate : Rate) (h : HeapState (Unit {0})) (o : Option Sound) (frames pulls : ℕ) (spent : Option PullFault) (e : EngineState) → state code rate o pulls spent h ≡ e → IsEngineInside code rate h o frames pulls spent → IsReadByChannels e
+pub read_by_channels : (code : Code) (rate : Rate) (h : HeapState Branch) (o : Option Sound) (frames pulls : ℕ) (spent : Option PullFault) (e : EngineState) → state code rate o pulls spent h ≡ e → IsEngineInside code rate h o frames pulls spent → IsReadByChannels e
 read_by_channels code rate h o frames pulls spent e is inside = subst (λ (e : EngineState). IsReadByChannels e) is (by_channel o refl)
   where
     by_channel : (q : Option Sound) → o ≡ q → IsReadByChannels (state code rate o pulls spent h)
@@ -280,7 +281,7 @@ nothing_read part h none w v x at = absurd (never (sym (none v) ∙ at))
     never : None ≡ Some x → ⊥
     never q = cc
 
-pub means_channels : (code : Code) (rate : Rate) (h : HeapState (Unit {0})) (o : Option Sound) (frames pulls : ℕ) (spent : Option PullFault) (e : EngineState) → state code rate o pulls spent h ≡ e → IsEngineInside code rate h o frames pulls spent → MeansItsChannels e
+pub means_channels : (code : Code) (rate : Rate) (h : HeapState Branch) (o : Option Sound) (frames pulls : ℕ) (spent : Option PullFault) (e : EngineState) → state code rate o pulls spent h ≡ e → IsEngineInside code rate h o frames pulls spent → MeansItsChannels e
 means_channels code rate h o frames pulls spent e is inside part = subst (MeansChannels part) is (by_channel o refl)
   where
     by_channel : (q : Option Sound) → o ≡ q → MeansChannels part (state code rate o pulls spent h)
@@ -333,7 +334,7 @@ unfolding timing_of
 rate_in s = refl
 
 -- it ends no later than the hour
-pub hour_of : (code : Code) (rate : Rate) (h : HeapState (Unit {0})) (opened : List Sound) → AreOpened code rate h opened → length (slice_index_or (channels code rate) 0 (silence rate)).samples ≤ last_index rate
+pub hour_of : (code : Code) (rate : Rate) (h : HeapState Branch) (opened : List Sound) → AreOpened code rate h opened → length (slice_index_or (channels code rate) 0 (silence rate)).samples ≤ last_index rate
 hour_of code rate h opened are =
     let same : are.sound.timing.rate ≡ rate = ap (λ (t : Timing). t.rate) are.timing ∙ rate_in are.channel ∙ channel_rate code rate are.channel are.one in
     let len : length (slice_index_or (channels code rate) 0 (silence rate)).samples ≡ are.sound.timing.len = ap (λ cs. length (slice_index_or cs 0 (silence rate)).samples) are.one ∙ sym are.plays.len in

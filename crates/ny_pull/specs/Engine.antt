@@ -7,6 +7,7 @@ use Rattle.ny_heap.specs.Means.{Parts, Whole, Means, sound_in}
 use Rattle.ny_heap.specs.Reach.{IsTrimmed}
 use Rattle.ny_heap.specs.Steps.{Passes, without_sound, advanced}
 use Rattle.ny_heap.specs.declared.sound.Sound.{Sound}
+use Rattle.ny_hands.specs.declared.branch.Branch.{Branch}
 use Rattle.ny_pull.specs.declared.fault.PullFault.{PullFault}
 use Rattle.ny_pull.specs.declared.fault.PullFault.TheVariants.{PoolFull}
 use Rattle.ny_check.specs.Code.{Code}
@@ -14,14 +15,14 @@ use Rattle.ny_check.specs.Channels.{channels}
 use Rattle.ny_eval.specs.Order.{FillsInOrder, StopsInOrder, FindsNoneFree}
 
 -- `channels` has for each channel what is still to be pulled of it, and none once all of it was given. `pulled` has how many pulls of it gave samples. `spent`
--- is the fault that ended the engine. No part waits yet, so the type of the heap's waiting parts says nothing
+-- is the fault that ended the engine
 pub record EngineState : Type 0 where
   pub code : Code
   pub rate : Rate
   pub channels : List (Option Sound)
   pub pulled : List ℕ
   pub spent : Option PullFault
-  pub heap : HeapState (Unit {0})
+  pub heap : HeapState Branch
 
 -- the samples of a channel, from its first on, as the strict meaning has them
 abbrev pub channel_at : EngineState → ℕ → List ℤ
@@ -42,18 +43,18 @@ HasEnded e c = length (channel_at e c) ≤ passed_of e c
 -- no list is read from outside the heap but by what is still to be pulled of a channel
 abbrev pub IsReadByChannels : EngineState → Type 0
 IsReadByChannels e =
-    (v : ℕ) (x : Node (Unit {0})) → node_at e.heap v ≡ Some x → 0 < sum x.outside → (c : ℕ) × (s : Sound) × (slice_get e.channels c ≡ Some (Some s)) × (list_of s ≡ Some v)
+    (v : ℕ) (x : Node Branch) → node_at e.heap v ≡ Some x → 0 < sum x.outside → (c : ℕ) × (s : Sound) × (slice_get e.channels c ≡ Some (Some s)) × (list_of s ≡ Some v)
 
 -- where the waiting parts are these, the heap holds parts of whole lists, and each channel that is still to be pulled is that of
 -- the strict meaning
-pub record MeansChannels (part : Parts (Unit {0})) (e : EngineState) : Type 0 where
+pub record MeansChannels (part : Parts Branch) (e : EngineState) : Type 0 where
   pub whole : Whole
   pub means : Means part e.heap whole
   pub each : (c : ℕ) (s : Sound) → slice_get e.channels c ≡ Some (Some s) → (sound_in whole.samples (list_of s) s.timing).samples ≡ channel_at e c
 
 -- whatever the waiting parts are
 abbrev pub MeansItsChannels : EngineState → Type 0
-MeansItsChannels e = (part : Parts (Unit {0})) → MeansChannels part e
+MeansItsChannels e = (part : Parts Branch) → MeansChannels part e
 
 -- one pull more of channel c that gave samples
 abbrev pub with_pull : List ℕ → ℕ → List ℕ
@@ -81,11 +82,11 @@ pub record GivesBlock (old new : EngineState) (c n : ℕ) : Type 0 where
   pub «open» : open_unit old.heap (list_of before) ≡ Some unit
   pub deep : ℕ
   pub order : List ℕ
-  pub filled : HeapState (Unit {0})
+  pub filled : HeapState Branch
   pub fills : FillsInOrder deep old.heap unit order filled
   pub after : Sound
   pub passes : Passes before after n
-  pub read : HeapState (Unit {0})
+  pub read : HeapState Branch
   pub reads : IsTrimmed (advanced filled before after) read
   pub left : Option Sound
   pub leaves : Leaves read new.heap after left

@@ -3,6 +3,7 @@ use Rattle.std.specs.Prelude.{◌≡◌, ℕ, ◌*◌, ◌≤◌, List, [], ◌�
 use Rattle.ny_heap.specs.Heap.{HeapState, node_at, list_of, open_unit, live_of}
 use Rattle.ny_heap.specs.Reach.{HeapLaws}
 use Rattle.ny_heap.specs.declared.sound.Sound.{Sound}
+use Rattle.ny_hands.specs.declared.branch.Branch.{Branch}
 use Rattle.ny_num.specs.declared.rate.Rate.{Rate}
 use Rattle.ny_num.specs.Sound as sounds
 use Rattle.ny_check.specs.Code.{Code}
@@ -29,7 +30,7 @@ abbrev pub IsStill : {B : Type 0} → HeapState B → Option Sound → List ℤ 
 IsStill h None xs pulls left = IsOver h xs pulls
 IsStill h (Some s) xs pulls left = IsUnderWay h s xs pulls left
 
-pub record IsEngineInside (code : Code) (rate : Rate) (h : HeapState (Unit {0})) (o : Option Sound) (frames pulls : ℕ) (spent : Option PullFault) : Type 0 where
+pub record IsEngineInside (code : Code) (rate : Rate) (h : HeapState Branch) (o : Option Sound) (frames pulls : ℕ) (spent : Option PullFault) : Type 0 where
   -- the one channel
   pub channel : sounds.Sound
   pub one : channels code rate ≡ channel ∷ []

@@ -11,6 +11,7 @@ ghost use Rattle.ny_pull.specs.Engine.{EngineState, channel_at, next_block, HasE
 use crate::fault::PullFault;
 use ny_check::Program;
 use ny_eval::{drive, eval_channels};
+use ny_hands::Branch;
 use ny_heap::{Heap, Sound};
 use ny_num::{Rate, Sample};
 use std::alloc::{AllocError, Global};
@@ -18,7 +19,7 @@ use std::marker::Model;
 
 /// What is left of a sound: the sound itself while some of it is to be read, and else nothing. It is
 /// given up then.
-fn left(heap: &mut Heap<()>, sound: Sound) -> Option<Sound>
+fn left(heap: &mut Heap<Branch>, sound: Sound) -> Option<Sound>
     requires laws { HeapLaws heap.old }
     requires held { IsHeldSound heap.old sound }
     ensures laws { HeapLaws heap.new }
@@ -37,7 +38,7 @@ fn left(heap: &mut Heap<()>, sound: Sound) -> Option<Sound>
 pub struct Engine {
     program: Program,
     rate: Rate,
-    heap: Heap<()>,
+    heap: Heap<Branch>,
     // What is still to be pulled, and none once all of it was given.
     channel: Option<Sound>,
     frames: u32,

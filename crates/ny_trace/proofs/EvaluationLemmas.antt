@@ -19,7 +19,7 @@ use Rattle.ny_hands.specs.Frames.{Names, bound_in, part_is}
 use Rattle.ny_hands.specs.declared.branch.Branch.{Branch}
 use Rattle.ny_trace.specs.Evaluates.{Trace, NodeTurn, Evaluates, numbers_in}
 use Rattle.ny_hands.specs.Hands.{item, Comes, AreNamed}
-use Rattle.ny_trace.specs.Laws.{KeepsFree, IsLawful}
+use Rattle.ny_trace.specs.Laws.{KeepFree, KeepsFree, IsLawful}
 use Rattle.ny_hands.proofs.ComingLemmas.{comes_as, comes_silent}
 use Rattle.ny_hands.proofs.NameLemmas.{scalars_bound}
 use Rattle.ny_trace.proofs.ValueLemmas.{leaf_comes, name_comes, operation_comes, sign_comes, effect_comes}
@@ -47,7 +47,8 @@ module _ (code : Code) (D : Trace) (law : IsLawful code D) (e : ℕ) (inside : e
   abbrev Gives : Node → Type 0
   Gives at = Comes (part_is code) old new (item s (λ w. sound_node code at (meaning code) env (bound_in w names)) ∷ [])
 
-  node_gives : (at : Node) → node_at code e ≡ at → IsBelow code.functions e at → KeepsFree code → ((bound : Bound) → meaning code e env bound ≡ sound_node code at (meaning code) env bound) → NodeTurn D code e at env names old new s → Gives at
+  -- of a sequence, what each part keeps must be enough
+  pub node_gives : (at : Node) → node_at code e ≡ at → IsBelow code.functions e at → ((es : List ExprId) → at ≡ node.Mix order.InTurn es → KeepFree code es) → ((bound : Bound) → meaning code e env bound ≡ sound_node code at (meaning code) env bound) → NodeTurn D code e at env names old new s → Gives at
   node_gives (node.Number v) is below free mean step = comes_silent (part_is code) old new env.sound_rate s laws step
   node_gives (node.Local x) is below free mean step = name_comes (part_is code) old new env.sound_rate x names s laws named step
   node_gives (node.Global a) is below free mean step = comes_silent (part_is code) old new env.sound_rate s laws step
@@ -84,7 +85,7 @@ module _ (code : Code) (D : Trace) (law : IsLawful code D) (e : ℕ) (inside : e
       (effect_comes code D law fx a (numbers_in code names es) env names old new s (omega (arith, below.0, inside)) laws named step)
   node_gives (node.Cue a) is below free mean step = absurd step
   node_gives (node.Mix order.Together es) is below free mean step = sim_comes code D law es env names old new s (below_all e (length code.nodes) es (omega (arith, inside)) below) laws named step
-  node_gives (node.Mix order.InTurn es) is below free mean step = seq_comes code D law e es env names old new s (below_all e (length code.nodes) es (omega (arith, inside)) below) (free e es is) mean laws named step
+  node_gives (node.Mix order.InTurn es) is below free mean step = seq_comes code D law e es env names old new s (below_all e (length code.nodes) es (omega (arith, inside)) below) (free es refl) mean laws named step
   node_gives (node.Repeat o x k a) is below free mean step = absurd step
   node_gives (node.Change c a) is below free mean step =
       comes_as (part_is code) old new s (λ w. meaning code a.0 (changed_env c (λ k. number_of code k (scalars_of names)) env) (bound_in w names)) (λ w. sound_node code (node.Change c a) (meaning code) env (bound_in w names)) []
@@ -100,4 +101,4 @@ evaluates_lawful code ordered free (suc n) e env names old new s (inr t) inside 
     let below = ordered.each e inside in
     let mean : (bound : Bound) → meaning code e env bound ≡ sound_node code (node_at code e) (meaning code) env bound = λ bound. meaning-is code e env bound below in
     comes_as (part_is code) old new s (λ w. sound_node code (node_at code e) (meaning code) env (bound_in w names)) (λ w. meaning code e env (bound_in w names)) [] (λ w. sym (mean (bound_in w names)))
-    (node_gives code (Evaluates code n) (evaluates_lawful code ordered free n) e inside env names old new s laws named (node_at code e) refl below free mean t)
+    (node_gives code (Evaluates code n) (evaluates_lawful code ordered free n) e inside env names old new s laws named (node_at code e) refl below (free e) mean t)

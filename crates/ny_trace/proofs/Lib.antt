@@ -10,3 +10,4 @@ pub mod RisingLemmas
 pub mod RisingSeqLemmas
 pub mod RisingEvaluationLemmas
 pub mod SettlingLemmas
+pub mod StepLemmas

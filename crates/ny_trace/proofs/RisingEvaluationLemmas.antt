@@ -25,12 +25,13 @@ use Rattle.ny_hands.specs.Hands.{AreNamed}
 use Rattle.ny_trace.specs.Laws.{KeepsFree, IsLawful}
 use Rattle.ny_trace.specs.Heights.{tall_node, IsTall, Ranks, AreLow, Stands, IsRising}
 use Rattle.ny_trace.proofs.EvaluationLemmas.{below_all, below_binds, evaluates_lawful}
-use Rattle.ny_trace.proofs.HeightLemmas.{stands_none, stands_wider, stands_shared, step_made}
+use Rattle.ny_trace.proofs.HeightLemmas.{stands_none, stands_from, from_trimmed, stands_wider, stands_shared, step_made}
 use Rattle.ny_trace.proofs.RisingLemmas.{operation_stands, sign_stands, effect_stands, block_stands, call_stands, sim_stands}
 use Rattle.ny_trace.proofs.RisingSeqLemmas.{low_found, seq_stands}
 
-silent_stands : (tall : ℕ → ℕ) (old new : HeapState Branch) (r : Rate) (s : Sound) (rank : ℕ → ℕ) (b : ℕ) → Ranks tall old rank → IsSilent old new r s → Stands tall old new rank b (s ∷ [])
-silent_stands tall old new r s rank b ranks step = subst (λ (h : HeapState Branch). Stands tall old h rank b (s ∷ [])) step.heap (stands_none tall old rank b (s ∷ []) ranks ((λ n is. absurd (none_some (list_of s) n step.list is)), tt))
+pub silent_stands : (tall : ℕ → ℕ) (old new : HeapState Branch) (r : Rate) (s : Sound) (rank : ℕ → ℕ) (b : ℕ) → Ranks tall old rank → IsSilent old new r s → Stands tall old new rank b (s ∷ [])
+silent_stands tall old new r s rank b ranks step =
+    stands_from tall old old new rank b [] (s ∷ []) (from_trimmed old new [] (step.makes.none refl)) (stands_none tall old rank b [] ranks tt) ((λ n is. absurd (none_some (list_of s) n step.makes.result.list is)), tt)
 
 module _ (code : Code) (D : Trace) (law : IsLawful code D) (tall : ℕ → ℕ) (rising : IsRising code tall D) (e : ℕ) (inside : e < length code.nodes) (env : Env) (names : Names) (old new : HeapState Branch) (s : Sound) (laws : HeapLaws old) (named : AreNamed old names) (rank : ℕ → ℕ) (base : ℕ) (ranks : Ranks tall old rank) (low : AreLow rank base (sounds_among names)) where
   name_stands : (r : Rate) (is : NameId → Bool) (o : Option (Value Sound)) → last_of is names ≡ o → NameTurn r o old new s → Stands tall old new rank (base + 0) (s ∷ [])
@@ -38,7 +39,7 @@ module _ (code : Code) (D : Trace) (law : IsLawful code D) (tall : ℕ → ℕ) 
   name_stands r is (Some (Number v)) found step = silent_stands tall old new r s rank (base + 0) ranks step
   name_stands r is (Some (SoundOf a)) found step = stands_wider tall old new rank base (base + 0) (s ∷ []) (omega arith) (stands_shared tall old new a s rank base ranks ((low_found rank base is names a low found), tt) step)
 
-  node_stands : (at : Node) → IsBelow code.functions e at → NodeTurn D code e at env names old new s → Stands tall old new rank (base + tall_node code at tall) (s ∷ [])
+  pub node_stands : (at : Node) → IsBelow code.functions e at → NodeTurn D code e at env names old new s → Stands tall old new rank (base + tall_node code at tall) (s ∷ [])
   node_stands (node.Number v) below step = silent_stands tall old new env.sound_rate s rank (base + 0) ranks step
   node_stands (node.Local x) below step = name_stands env.sound_rate (same_name x) (last_of (same_name x) names) refl step
   node_stands (node.Global a) below step = silent_stands tall old new env.sound_rate s rank (base + 0) ranks step

@@ -29,7 +29,7 @@ use Rattle.ny_hands.proofs.NameLemmas.{named_kept, named_append, named_among}
 use Rattle.ny_trace.proofs.ValueLemmas.{value_comes}
 use Rattle.ny_trace.proofs.BlockLemmas.{binds_come, bind_sounds_are, args_come, arg_sounds}
 use Rattle.ny_hands.proofs.SpendLemmas.{hand_brought}
-use Rattle.ny_trace.proofs.HeightLemmas.{low_append, low_first, low_last, low_more, low_later, stands_none, stands_more, stands_wider, stands_released, stands_seq, step_made, step_brought, both_stands}
+use Rattle.ny_trace.proofs.HeightLemmas.{low_append, low_first, low_last, low_more, low_later, from_trimmed, stands_from, stands_none, stands_more, stands_wider, stands_released, stands_seq, step_made, step_brought, both_stands}
 
 abbrev pub value_list : Value Sound → List Sound
 value_list (Number v) = []
@@ -75,13 +75,8 @@ module _ (code : Code) (D : Trace) (law : IsLawful code D) (tall : ℕ → ℕ) 
       stands_seq tall old step.mid new rank (m + 1) (m + 1 + 1) (m + 2) (step.brought ∷ []) (s ∷ []) (omega arith) (omega arith) one.kept pq v
 
   join_stands : (old mid new : HeapState Branch) (op : Op) (r : Rate) (x y : Value Sound) (s : Sound) (rank : ℕ → ℕ) (m : ℕ) → HeapLaws old → Hand old mid (value_list x ++ value_list y) → Stands tall old mid rank m (value_list x ++ value_list y) → JoinTurn op r x y mid new s → Stands tall old new rank (m + 2) (s ∷ [])
-  join_stands old mid new op r (Number j) (Number k) s rank m laws c p step = subst (λ (h : HeapState Branch). Stands tall old h rank (m + 2) (s ∷ [])) step.heap (record {
-    later = p.later;
-    ranks = p.ranks;
-    same = p.same;
-    low = λ v y none at. omega (arith, p.low v y none at);
-    in_hand = ((λ n is. absurd (none_some (list_of s) n step.list is)), tt);
-  })
+  join_stands old mid new op r (Number j) (Number k) s rank m laws c p step =
+      stands_from tall old mid new rank (m + 2) [] (s ∷ []) (from_trimmed mid new [] (step.makes.none refl)) (stands_wider tall old mid rank m (m + 2) [] (omega arith) p) ((λ n is. absurd (none_some (list_of s) n step.makes.result.list is)), tt)
   join_stands old mid new op r (Number j) (SoundOf b) s rank m laws c p step = one_stands old mid new op _ None r b s rank m laws c p step
   join_stands old mid new op r (SoundOf a) (Number k) s rank m laws c p step = one_stands old mid new op None _ r a s rank m laws c p step
   join_stands old mid new op r (SoundOf a) (SoundOf b) s rank m laws c p step = both_stands tall old mid new op r a b s rank m laws c p step

@@ -93,7 +93,7 @@ settled_placed mid new f a s step all = by_length (length_of s.timing)
     by_length (Long e f) = subst (λ (h : HeapState Branch). AllSettled h) (sym (step.some e)) all
 
 settled_silent : (old new : HeapState Branch) (r : Rate) (s : Sound) → IsSilent old new r s → AllSettled old → AllSettled new
-settled_silent old new r s step all = subst (λ (h : HeapState Branch). AllSettled h) step.heap all
+settled_silent old new r s step all = settled_made old new _ _ [] [] [] s (inl refl) step all
 
 settled_kept : (names : Names) (xs : List NameId) (k : ℕ) (old new : HeapState Branch) (kept : List (NameId × Value ℕ)) (ss : List Sound) → KeepsTurn names xs k old new kept ss → AllSettled old → AllSettled new
 settled_kept names [] k old new kept ss step all = subst (λ (h : HeapState Branch). AllSettled h) step.2 all

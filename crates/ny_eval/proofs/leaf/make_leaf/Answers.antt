@@ -1,17 +1,21 @@
-use Rattle.std.proofs.Common.{ap, ◌∙◌, arith}
-use Rattle.ny_check.specs.Families.{leaf_sound}
+use Rattle.std.proofs.Common.{[], ap, ◌∙◌, sym, subst}
+use Rattle.ny_heap.specs.Heap.{Made}
+use Rattle.ny_check.specs.Families.{leaf_sound, leaf_time}
+use Rattle.ny_hands.proofs.HandLemmas.{hand_none}
+use Rattle.ny_hands.proofs.SpendLemmas.{all_given_up}
 use Rattle.ny_eval.proofs.AnswerLemmas.{on_err}
-use Rattle.ny_eval.proofs.TurnLemmas.{before_none, turns_as}
+use Rattle.ny_eval.proofs.LeafLemmas.{leaf_turn}
 use Rattle.ny_eval.proofs.leaf.make_leaf.Goals as goal
 
 pub returns-in_err-numbers-clause-refused : goal.returns-in_err-numbers-clause-refused
-returns-in_err-numbers-clause-refused g c = on_err c.from_residual.result _ (before_none c.args.heap.now c.lawful.ensures)
+returns-in_err-numbers-clause-refused c = on_err c.from_residual.result _ (hand_none c.args.heap.now c.lawful.ensures)
 
 pub returns-in_err-unit-clause-refused : goal.returns-in_err-unit-clause-refused
-returns-in_err-unit-clause-refused g c = on_err c.from_residual-in_err-unit.result _ (before_none c.args.heap.now c.lawful.ensures)
+returns-in_err-unit-clause-refused c = on_err c.from_residual-in_err-unit.result _ (hand_none c.args.heap.now c.lawful.ensures)
 
-pub returns-clause-turns : goal.returns-clause-turns
-returns-clause-turns g c height =
-    turns_as c.args.heap.now c.play.new.heap c.in_ok-play.field-0 height height _ _ (omega arith)
-    (c.in_ok-unit.ensures.sound ∙ ap (leaf_sound c.args.generator c.args.env.now) (c.as_slice-2.ensures.value ∙ c.in_ok-numbers.ensures))
-    (c.in_ok-play.ensures.turns height)
+pub returns-in_err-play-clause-refused : goal.returns-in_err-play-clause-refused
+returns-in_err-play-clause-refused c = on_err _ _ (all_given_up c.args.heap.now c.args.heap.now c.play.new.heap [] c.lawful.ensures (hand_none c.args.heap.now c.lawful.ensures) c.in_err-play.ensures.gives_up)
+
+pub returns-clause-turn : goal.returns-clause-turn
+returns-clause-turn c =
+    leaf_turn c.args.heap.now c.play.new.heap c.args.generator c.args.env.now _ _ _ c.leaf_time-timing.result c.in_ok-unit.unit c.in_ok-play.field-0 (c.as_slice.ensures.value ∙ c.in_ok-numbers.ensures) (c.as_slice-2.ensures.value ∙ c.in_ok-numbers.ensures) c.leaf_time-timing.ensures.value c.in_ok-unit.ensures.sound c.in_ok-play.ensures.makes
