@@ -114,6 +114,7 @@ played_one code ordered (suc turns) n env bound less inside builds =
     let part = part_built n m (built code) is in
     (part.0, ap (λ (g : Plays). g env bound) (below-at n m none (played code) part.0) ∙ played_one code ordered turns m env bound (omega (arith, part.0, less)) (omega (arith, part.0, inside)) part.1))
     (node_in code n) (ordered.each n inside) refl (built_at code n (node_in code n) refl builds)
+
 -- ---- where nothing waits, it does not matter what the parts that wait are
 
 means_any : {B : Type 0} (p q : Parts B) (h : HeapState B) (w : Whole) → IsSettled h → Means p h w → Means q h w

@@ -86,7 +86,17 @@ fn evaluate(
             Ok(make_leaf(alloc, p, e, *generator, parts.as_slice(), &env, binds, heap)?)
         }
         Node::Effect(effect, part, parts) => {
-            Ok(affected(alloc, p, e, *effect, *part, parts.as_slice(), env, binds, heap)?)
+            Ok(affected(
+                alloc,
+                p,
+                e,
+                *effect,
+                *part,
+                parts.as_slice(),
+                env,
+                binds,
+                heap,
+            )?)
         }
         Node::If(c, a, b) => {
             let part = chosen(p.test(alloc, *c, binds)?, *a, *b);
