@@ -1,7 +1,7 @@
 use ny_num::Fix;
 
 /// A reserved word (`docs/LANGUAGE.md`, "Tokens").
-#[derive(Clone, Copy, Debug, PartialEq, Eq)]
+#[derive(Clone, Copy)]
 pub enum Word {
     Define,
     Function,
@@ -14,7 +14,7 @@ pub enum Word {
 }
 
 /// A sign (`docs/LANGUAGE.md`, "Tokens").
-#[derive(Clone, Copy, Debug, PartialEq, Eq)]
+#[derive(Clone, Copy)]
 pub enum Mark {
     /// `(`
     Open,
@@ -55,7 +55,7 @@ pub enum Mark {
 }
 
 /// What a token is. A name's bytes are those of the text from `from` to `to`, folded to lower case.
-#[derive(Clone, Copy, Debug, PartialEq, Eq)]
+#[derive(Clone, Copy)]
 pub enum TokenKind {
     Name,
     Number(Fix),
@@ -66,7 +66,7 @@ pub enum TokenKind {
 }
 
 /// A token: what it is, the place of its first byte, and the place past its last.
-#[derive(Clone, Copy, Debug, PartialEq, Eq)]
+#[derive(Clone, Copy)]
 pub struct Token {
     pub kind: TokenKind,
     pub from: u32,

@@ -2,13 +2,13 @@ use ny_num::Fix;
 use sqlite_items::{Boxed, Items};
 
 /// A name by its bytes, folded to lower case.
-#[derive(Debug, Drop)]
+#[derive(Drop)]
 pub struct Name {
     pub bytes: Items<u8>,
 }
 
 /// An operator between two expressions.
-#[derive(Clone, Copy, Debug, PartialEq, Eq)]
+#[derive(Clone, Copy)]
 pub enum BinOp {
     Or,
     And,
@@ -28,7 +28,7 @@ pub enum BinOp {
 }
 
 /// An operator before an expression.
-#[derive(Clone, Copy, Debug, PartialEq, Eq)]
+#[derive(Clone, Copy)]
 pub enum PreOp {
     Minus,
     Not,
@@ -37,7 +37,7 @@ pub enum PreOp {
 /// An expression and its place: the operator's byte of a binary expression, else the first byte of
 /// its first token. An expression in brackets has its place inside them.
 #[cycle(tree)]
-#[derive(Debug, Drop)]
+#[derive(Drop)]
 pub struct Expr {
     pub at: u32,
     pub form: Form,
@@ -45,7 +45,7 @@ pub struct Expr {
 
 /// What an expression is made of.
 #[cycle(tree)]
-#[derive(Debug, Drop)]
+#[derive(Drop)]
 pub enum Form {
     Number(Fix),
     Name(Name),
@@ -58,7 +58,7 @@ pub enum Form {
 
 /// A name that a block gives to a value, at the name's place.
 #[cycle(tree)]
-#[derive(Debug, Drop)]
+#[derive(Drop)]
 pub struct Bind {
     pub at: u32,
     pub name: Name,
@@ -66,14 +66,14 @@ pub struct Bind {
 }
 
 /// A name that a function gives to an argument, at the name's place.
-#[derive(Debug, Drop)]
+#[derive(Drop)]
 pub struct Param {
     pub at: u32,
     pub name: Name,
 }
 
 /// A declaration, at its name's place.
-#[derive(Debug, Drop)]
+#[derive(Drop)]
 pub enum Decl {
     Function {
         at: u32,
@@ -90,7 +90,7 @@ pub enum Decl {
 
 /// A whole text: its declarations, what it plays, the place of `play` (the text's length where there
 /// is none) and the text's length.
-#[derive(Debug, Drop)]
+#[derive(Drop)]
 pub struct Tree {
     pub decls: Items<Decl>,
     pub play: Option<Expr>,
