@@ -6,7 +6,7 @@ use crate::table::Table;
 use ny_pool::SlotId;
 
 /// Which block of which list a taken block is, and which block of the pool is the next of that list.
-#[derive(Clone, Copy, Debug, PartialEq, Eq)]
+#[derive(Clone, Copy)]
 pub(crate) struct Link {
     pub(crate) list: u32,
     pub(crate) number: u32,
@@ -15,7 +15,7 @@ pub(crate) struct Link {
 }
 
 /// Which blocks of a list are kept: those from `gone` to `filled`. Where there are any, `first` and `last` name them.
-#[derive(Clone, Copy, Debug, PartialEq, Eq)]
+#[derive(Clone, Copy)]
 pub(crate) struct Span {
     pub(crate) len: u32,
     pub(crate) gone: u32,
@@ -25,7 +25,7 @@ pub(crate) struct Span {
 }
 
 /// A block of a list, by its number in the pool and in the list.
-#[derive(Clone, Copy, Debug, PartialEq, Eq)]
+#[derive(Clone, Copy)]
 struct Standing {
     at: u32,
     number: u32,

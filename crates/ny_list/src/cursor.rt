@@ -6,7 +6,7 @@ use std::marker::Model;
 /// The end of a list, where its owner appends blocks.
 ///
 /// It is spent by [`Store::close`](crate::Store::close). One that is merely dropped leaves its list in the store.
-#[derive(Debug, Drop)]
+#[derive(Drop)]
 pub struct List {
     pub(crate) slot: SlotId,
 }
@@ -26,7 +26,7 @@ impl Model for List {
 ///
 /// It is spent by [`Store::drop_cursor`](crate::Store::drop_cursor). One that is merely dropped stays counted and keeps
 /// its blocks.
-#[derive(Debug, Drop)]
+#[derive(Drop)]
 pub struct Cursor {
     pub(crate) list: SlotId,
     pub(crate) place: u32,

@@ -11,7 +11,7 @@ use ny_num::Sample;
 use ny_pool::{BlockId, Pool, SlotId, Slots};
 
 /// What a store knows of a list.
-#[derive(Clone, Copy, Debug, PartialEq, Eq)]
+#[derive(Clone, Copy)]
 pub(crate) struct Entry {
     pub(crate) span: Span,
     pub(crate) tag: u32,
