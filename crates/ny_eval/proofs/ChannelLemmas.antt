@@ -2,7 +2,6 @@
 use Rattle.std.proofs.Common.{◌≡◌, ℕ, zero, suc, ◌+◌, ◌*◌, ◌<◌, ◌≤◌, ◌==◌, Bool, true, false, if◌then◌else◌, List, [], ◌∷◌, ◌++◌, map, length, sum, slice_index, Option, None, Some, refl, sym, ap, subst, ◌∙◌, arith}
 use Rattle.std.specs.Prelude.{nat_lt, ◌&&◌}
 use Rattle.std.proofs.lemmas.Bool.{eqb-true}
-use Rattle.std.specs.List.{fold}
 use Rattle.std.specs.Option.{option_map_or}
 use Rattle.ny_num.specs.declared.timing.Timing.{Timing}
 use Rattle.ny_num.specs.declared.rate.Rate.{Rate}
@@ -18,21 +17,21 @@ use Rattle.ny_check.specs.declared.node.Node.TheVariants as node
 use Rattle.ny_check.specs.declared.node.ExprId.{ExprId}
 use Rattle.ny_check.specs.Code.{Code, node_at as node_in, IsBelow, IsOrdered}
 use Rattle.ny_check.specs.Values.{scalars_of, test_of}
-use Rattle.ny_check.specs.Recursion.{below, turns, by_smaller}
+use Rattle.ny_check.specs.Recursion.{below, turns}
 use Rattle.ny_check.specs.Meaning.{Bound, meaning, sound_node}
 use Rattle.ny_check.specs.Channels.{Plays, plays_node, played, channel_at, channels}
 use Rattle.ny_check.proofs.Smaller.{below-at, by_smaller-is}
 use Rattle.ny_check.proofs.MeaningEquation.{meaning-is}
-use Rattle.ny_heap.specs.Heap.{Channel, Node, HeapState, node_at, list_of, place_of}
-use Rattle.ny_heap.specs.Means.{Parts, Whole, Means, NodeMeans, heard, input_sound, captured_sound, parts_from, all_inputs, stop_after, unit_value}
-use Rattle.ny_heap.specs.Reach.{HeapLaws, IsTrimmed}
-use Rattle.ny_heap.specs.Steps.{AreHeld, IsMixOf, Makes, MakesMeaning, new_node, reader_of, sounds_of, without_sounds}
+use Rattle.ny_heap.specs.Heap.{Channel, Node, HeapState, node_at, list_of}
+use Rattle.ny_heap.specs.Means.{Parts, Whole, Means, heard, input_sound, parts_from, all_inputs, stop_after, unit_value}
+use Rattle.ny_heap.specs.Reach.{HeapLaws}
+use Rattle.ny_heap.specs.Steps.{AreHeld, IsMixOf, Makes, MakesMeaning, new_node, reader_of, sounds_of}
 use Rattle.ny_heap.specs.declared.sound.Sound.{Sound}
 use Rattle.ny_hands.specs.declared.branch.Branch.{Branch}
 use Rattle.ny_hands.specs.Calls.{MakesUnit, Brings}
 use Rattle.ny_hands.specs.Frames.{Names, part_is, sound_at}
-use Rattle.ny_hands.specs.Hands.{marks_at, mark_in, mark_of, item, Hand, Comes}
-use Rattle.ny_hands.proofs.OptionLemmas.{none_some, same_at, some_same}
+use Rattle.ny_hands.specs.Hands.{marks_at, mark_in, item, Hand, Comes}
+use Rattle.ny_hands.proofs.OptionLemmas.{none_some, some_same}
 use Rattle.ny_hands.proofs.HeapLemmas.{Length, Empty, Long, length_of}
 use Rattle.ny_hands.proofs.BeforeLemmas.{some_mark}
 use Rattle.ny_hands.proofs.HandLemmas.{are_held, marks_there}

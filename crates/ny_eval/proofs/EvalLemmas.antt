@@ -1,5 +1,5 @@
 -- The steps of evaluation, by family, and what is in hand between them.
-use Rattle.std.proofs.Common.{◌≡◌, ℕ, ◌+◌, ◌<◌, max, Bool, true, false, if◌then◌else◌, List, [], ◌∷◌, ◌++◌, length, None, Some, refl, sym, ap, subst, ◌∙◌, arith, ℤ, pos}
+use Rattle.std.proofs.Common.{◌≡◌, ℕ, ◌+◌, ◌<◌, max, Bool, true, false, if◌then◌else◌, List, [], ◌∷◌, length, None, Some, refl, sym, ap, subst, ◌∙◌, arith, ℤ}
 use Rattle.ny_kernels.specs.declared.operation.Op.{Op}
 use Rattle.ny_warp.specs.declared.env.Env.{Env}
 use Rattle.ny_check.specs.declared.node.Node.{Node}
@@ -13,7 +13,7 @@ use Rattle.ny_check.specs.declared.value.Scalar.TheVariants as scalar
 use Rattle.ny_check.specs.declared.value.Value.{Value}
 use Rattle.ny_check.specs.declared.value.Value.TheVariants.{Number, Sound as SoundOf}
 use Rattle.ny_check.specs.Code.{Code, node_at, IsBelow, IsOrdered}
-use Rattle.ny_check.specs.Values.{scalars_of, scalar_of, number_of, test_of}
+use Rattle.ny_check.specs.Values.{scalars_of, number_of, test_of}
 use Rattle.ny_check.specs.Families.{changed_env}
 use Rattle.ny_check.specs.Recursion.{below}
 use Rattle.ny_heap.specs.declared.sound.Sound.{Sound}

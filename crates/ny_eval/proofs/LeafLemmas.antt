@@ -1,14 +1,11 @@
 -- What the leaves give, row by row.
-use Rattle.std.proofs.Common.{◌≡◌, ℕ, zero, suc, ◌+◌, ◌-◌, ◌<◌, ◌≤◌, List, [], ◌∷◌, map, refl, sym, ap, subst, ◌∙◌, arith, ℤ, pos, neg_ℤ, ◌≤ℤ◌}
+use Rattle.std.proofs.Common.{◌≡◌, ℕ, List, [], refl, sym, ap, subst, ◌∙◌, arith, ℤ, pos, neg_ℤ, ◌≤ℤ◌}
 use Rattle.std.proofs.lemmas.Int.{ints, int_max_is, int_min_is}
-use Rattle.std.specs.List.{range_with_len}
 use Rattle.std.specs.Int.{int_min, int_max}
 use Rattle.ny_num.specs.Numbers.{sat_sample, sample_limit, sample_mul}
 use Rattle.ny_num.specs.declared.timing.Timing.{Timing}
 use Rattle.ny_num.specs.Leaves as leaves
 use Rattle.ny_num.specs.Leaves.{louder_value, ramp_value, wave_value, noise_value, increment, key_hz, key_of, seed_of}
-use Rattle.ny_num.specs.Sound as sounds
-use Rattle.ny_num.specs.Sound.{IsTiming, timing_of, sound_of}
 use Rattle.ny_warp.specs.declared.env.Env.{Env}
 use Rattle.ny_check.specs.declared.node.Generator.{Generator}
 use Rattle.ny_check.specs.Families.{leaf_sound, leaf_time}

@@ -1,5 +1,5 @@
 -- The laws of a trace of what can be played: no sequence is met, so none of its parts keeps names.
-use Rattle.std.proofs.Common.{◌≡◌, inl, inr, ℕ, zero, suc, ◌+◌, ◌*◌, ◌<◌, ◌≤◌, max, Bool, true, false, if◌then◌else◌, List, [], ◌∷◌, length, refl, sym, ap, subst, ◌∙◌, arith, pos}
+use Rattle.std.proofs.Common.{◌≡◌, inl, inr, ℕ, zero, suc, ◌+◌, ◌≤◌, Bool, true, false, if◌then◌else◌, List, [], ◌∷◌, refl, sym, ap, subst, ◌∙◌, arith, pos}
 use Rattle.std.specs.Prelude.{◌&&◌}
 use Rattle.std.proofs.lemmas.Bool.{cases_eq}
 use Rattle.ny_num.specs.declared.rate.Rate.{Rate}
@@ -20,24 +20,23 @@ use Rattle.ny_check.specs.Meaning.{Bound, meaning, sound_node}
 use Rattle.ny_check.proofs.MeaningEquation.{meaning-is}
 use Rattle.ny_heap.specs.declared.sound.Sound.{Sound}
 use Rattle.ny_heap.specs.Heap.{Kind, Node, HeapState, node_at}
-use Rattle.ny_heap.specs.Reach.{HeapLaws, IsTrimmed}
+use Rattle.ny_heap.specs.Reach.{IsTrimmed}
 use Rattle.ny_heap.specs.Steps.{without_sounds, new_node}
 use Rattle.ny_hands.specs.declared.branch.Branch.{Branch}
 use Rattle.ny_hands.specs.Calls.{MakesUnit, Brings, Stay, Change}
-use Rattle.ny_hands.specs.Frames.{Names, bound_in, sounds_among, part_is}
-use Rattle.ny_hands.specs.Hands.{item, Comes, AreNamed}
+use Rattle.ny_hands.specs.Frames.{Names, bound_in, part_is}
 use Rattle.ny_hands.proofs.OptionLemmas.{same_at}
 use Rattle.ny_hands.proofs.HeapLemmas.{Length, Empty, Long, length_of}
 use Rattle.ny_hands.proofs.MarkLemmas.{spent_like}
 use Rattle.ny_hands.proofs.ComingLemmas.{comes_as}
 use Rattle.ny_trace.specs.Evaluates.{Trace, NodeTurn, JoinTurn, ValueTurn, Evaluates}
 use Rattle.ny_trace.specs.Laws.{IsLawful}
-use Rattle.ny_trace.specs.Heights.{tall_node, Ranks, AreLow, Stands, IsRising}
+use Rattle.ny_trace.specs.Heights.{tall_node, IsRising}
 use Rattle.ny_trace.proofs.EvaluationLemmas.{node_gives}
 use Rattle.ny_trace.proofs.HeightLemmas.{from_trimmed, stands_wider}
 use Rattle.ny_trace.proofs.RisingEvaluationLemmas.{node_stands}
 use Rattle.ny_eval.specs.Below.{IsSettled}
-use Rattle.ny_eval.specs.Built.{all_built, change_built, built_node, built}
+use Rattle.ny_eval.specs.Built.{change_built, built_node, built}
 use Rattle.ny_eval.specs.Opened.{stack_of}
 use Rattle.ny_eval.proofs.BuiltLemmas.{both_true, more_true, not_built, part_built, built_at}
 

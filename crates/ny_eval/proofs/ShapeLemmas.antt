@@ -1,5 +1,5 @@
 -- A sound without signs or filtered, as the unit that computes it gives it.
-use Rattle.std.proofs.Common.{◌≡◌, ℕ, ◌+◌, ◌-◌, ◌≤◌, List, [], ◌∷◌, length, get_or, drop, Some, refl, sym, ap, subst, ◌∙◌, arith, ℤ, pos}
+use Rattle.std.proofs.Common.{◌≡◌, ℕ, ◌-◌, List, [], ◌∷◌, length, get_or, drop, Some, refl, sym, ap, subst, ◌∙◌, arith, ℤ, pos}
 use Rattle.std.proofs.lemmas.List.FromFn.{fill_by_all}
 use Rattle.ny_num.specs.declared.rate.Rate.{Rate}
 use Rattle.ny_num.specs.Filters.{one_pole, biquad, comb, comb_delay, at_rest}

@@ -1,13 +1,13 @@
 -- Heaps of the same units, whatever samples are kept and whatever units keep of what they have passed: they want the same, have as many
 -- blocks free, and are filled alike.
-use Rattle.std.proofs.Common.{◌≡◌, ◌≢◌, inl, inr, ℕ, zero, suc, ◌+◌, ◌-◌, ◌<◌, Bool, true, false, cond, nat_lt, if◌then◌else◌, List, [], ◌∷◌, map, get_or, slice_get, slice_index, Option, None, Some, sum, sum_by, refl, sym, ap, subst, ◌∙◌, arith}
+use Rattle.std.proofs.Common.{◌≡◌, inl, inr, ℕ, zero, suc, ◌+◌, ◌-◌, ◌<◌, nat_lt, if◌then◌else◌, List, [], ◌∷◌, map, get_or, slice_get, slice_index, Option, None, Some, sum, sum_by, refl, sym, ap, subst, ◌∙◌, arith}
 use Rattle.std.proofs.lemmas.Bool.{cases_eq}
 use Rattle.std.proofs.lemmas.List.Sums.{sum_by-cons}
 use Rattle.std.specs.Option.{option_map, option_map_or}
-use Rattle.ny_heap.specs.Heap.{Reader, Memory, Nothing, Node, HeapState, node_at, input_at, blocks_of, taken_after, computed_of, is_reader, is_captured, own_in, readers_in, first_read, first_kept, kept_of, kept_from, live_of, free_of}
-use Rattle.ny_heap.specs.Reach.{Uses, Read, Hold, ReadOutside, LeadsIn, IsReachable, HeapLaws, IsTrimmed}
+use Rattle.ny_heap.specs.Heap.{Reader, Memory, Nothing, Node, HeapState, node_at, input_at, blocks_of, taken_after, computed_of, own_in, readers_in, first_read, kept_of, kept_from, free_of}
+use Rattle.ny_heap.specs.Reach.{Uses, Read, Hold, LeadsIn, IsReachable, HeapLaws, IsTrimmed}
 use Rattle.ny_heap.specs.Steps.{Fills, filled_node, moved, lacks, wants, want_of}
-use Rattle.ny_eval.proofs.BelowLemmas.{same_at, some_same}
+use Rattle.ny_eval.proofs.BelowLemmas.{some_same}
 
 -- a unit, whatever it keeps of what it has passed
 abbrev pub plain : {B : Type 0} → Node B → Node B

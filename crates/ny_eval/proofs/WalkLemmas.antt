@@ -1,8 +1,8 @@
 -- A walk is the only one from its heap: two that end fill the same units, and none both ends and stops.
-use Rattle.std.proofs.Common.{◌≡◌, ◌⊎◌, inl, inr, ℕ, zero, suc, ◌+◌, ◌<◌, ◌≤◌, true, false, IsTrue, List, [], ◌∷◌, ◌++◌, Option, None, Some, Result, Ok, Err, OnOk, OnErr, is_err, refl, sym, ap, subst, ◌∙◌, arith}
-use Rattle.ny_heap.specs.Heap.{HeapState, free_of}
+use Rattle.std.proofs.Common.{◌≡◌, ◌⊎◌, inl, inr, ℕ, zero, suc, ◌<◌, true, false, IsTrue, List, [], ◌∷◌, ◌++◌, None, Some, Result, Ok, Err, OnOk, OnErr, is_err, refl, sym, ap, subst, ◌∙◌, arith}
+use Rattle.ny_heap.specs.Heap.{HeapState}
 use Rattle.ny_heap.specs.Steps.{want_of}
-use Rattle.ny_eval.specs.Order.{FillsWants, FillsThen, FillsInOrder, StopsHere, StopsBelow, StopsThen, StopsInOrder, FindsNoneFree}
+use Rattle.ny_eval.specs.Order.{FillsWants, FillsThen, FillsInOrder, StopsThen, StopsInOrder, FindsNoneFree}
 use Rattle.ny_eval.proofs.BelowLemmas.{some_same}
 use Rattle.ny_eval.proofs.TwinLemmas.{AreTwins, twins_none, twins_turned, want_like, free_like, fills_like}
 

@@ -21,7 +21,7 @@ use Rattle.ny_hands.proofs.RateLemmas.{resampled_same, same_rate, brought_is}
 use Rattle.ny_hands.proofs.HeardLemmas.{hears_one}
 use Rattle.ny_hands.specs.Calls.{Shares, MakesUnit, ReleasesAll, Brings, Stay, Change, IsSilent}
 use Rattle.ny_hands.specs.Frames.{sound_at}
-use Rattle.ny_hands.specs.Hands.{mark_in, Begins, AllBegin, IsLike, Hand, Item, item, sounds_in, Are, Later, Comes}
+use Rattle.ny_hands.specs.Hands.{Begins, AllBegin, IsLike, Hand, Item, item, sounds_in, Are, Later, Comes}
 use Rattle.ny_hands.proofs.MarkLemmas.{spent_like}
 use Rattle.ny_hands.proofs.HandLemmas.{hand_none, hand_more, hand_swap, hand_turned, hand_released_all, hand_shared, hand_made, begin_first, begin_last}
 

@@ -1,5 +1,5 @@
 -- What a call does for sounds in hand: it can spend them, it gives them up, or one comes in the place of another.
-use Rattle.std.proofs.Common.{◌≡◌, List, [], ◌∷◌, ◌++◌, sym, subst}
+use Rattle.std.proofs.Common.{◌≡◌, List, [], ◌∷◌, sym, subst}
 use Rattle.std.proofs.lemmas.List.{append-nil}
 use Rattle.ny_num.specs.Sound.{IsTiming}
 use Rattle.ny_num.specs.declared.rate.Rate.{Rate}
@@ -12,7 +12,7 @@ use Rattle.ny_heap.specs.Reach.{HeapLaws, IsTrimmed}
 use Rattle.ny_heap.specs.Steps.{AreHeld, Makes, MakesMeaning, without_sounds}
 use Rattle.ny_hands.specs.Calls.{MakesUnit, Brings, Stay, Change}
 use Rattle.ny_hands.specs.Hands.{Hand, InHand, GivesUp}
-use Rattle.ny_hands.proofs.HandLemmas.{hand_none, hand_more, hand_swap, hand_made, spend, rests_trimmed, are_held}
+use Rattle.ny_hands.proofs.HandLemmas.{hand_swap, hand_made, spend, rests_trimmed, are_held}
 
 -- ---- sounds in hand
 
@@ -22,9 +22,6 @@ in_hand_held h ss is = are_held is.before h ss is.others is.hand
 pub gives_up_trimmed : {B : Type 0} (old new : HeapState B) (ss ts : List Sound) → ts ≡ ss → HeapLaws new → IsTrimmed (without_sounds old ts) new → GivesUp old new ss
 gives_up_trimmed old new ss ts same laws trimmed before others first hand =
     rests_trimmed before (without_sounds old ss) new others first laws (spend before old ss others hand) (subst (λ xs. IsTrimmed (without_sounds old xs) new) same trimmed)
-
-pub none_made : {B : Type 0} (old new : HeapState B) (ts : List Sound) → ts ≡ [] → HeapLaws old → HeapLaws new → IsTrimmed (without_sounds old ts) new → Hand old new []
-none_made old new ts same before laws trimmed = gives_up_trimmed old new [] ts same laws trimmed old [] before (hand_none old before)
 
 -- a unit over these sounds
 pub unit_made : {B : Type 0} (old new : HeapState B) (kind : Kind) (t : Timing) (ss ts : List Sound) (s : Sound) → ts ≡ ss → HeapLaws new → IsTiming t → Makes old new kind t ts [] ts s → MakesMeaning old new kind t ts [] s → MakesUnit old new kind t ss [] ss s
@@ -43,9 +40,6 @@ second_in_hand old new r a s b is step = record { before = is.before; others = i
 pub one_of_two : {B : Type 0} (h : HeapState B) (a b : Sound) → InHand h (a ∷ b ∷ []) → InHand h (a ∷ [])
 one_of_two h a b is = record { before = is.before; others = b ∷ is.others; laws = is.laws; hand = is.hand }
 
-pub other_of_two : {B : Type 0} (h : HeapState B) (a b : Sound) → InHand h (a ∷ b ∷ []) → InHand h (b ∷ a ∷ [])
-other_of_two h a b is = record { before = is.before; others = is.others; laws = is.laws; hand = hand_swap is.before h a b is.others is.hand }
-
 -- what is left once the first was given up
 pub left_in_hand : {B : Type 0} (old new : HeapState B) (a b : Sound) → InHand old (a ∷ b ∷ []) → GivesUp old new (a ∷ []) → InHand new (b ∷ [])
 left_in_hand old new a b is gives = record { before = is.before; others = is.others; laws = is.laws; hand = gives is.before (b ∷ is.others) is.laws is.hand }
@@ -56,9 +50,6 @@ gives_up_both old mid new a b first second before others laws hand = second befo
 pub gives_up_brought : {B : Type 0} (old mid new : HeapState B) (r : Rate) (a s b : Sound) → Brings old mid r a s → GivesUp mid new (b ∷ s ∷ []) → GivesUp old new (a ∷ b ∷ [])
 gives_up_brought old mid new r a s b step gives before others laws hand =
     gives before others laws (hand_swap before mid s b others (hand_brought before old mid r a s (b ∷ others) laws hand step))
-
-pub gives_up_swapped : {B : Type 0} (old new : HeapState B) (a b : Sound) → GivesUp old new (a ∷ b ∷ []) → GivesUp old new (b ∷ a ∷ [])
-gives_up_swapped old new a b gives before others laws hand = gives before others laws (hand_swap before old b a others hand)
 
 -- ---- one sound
 

@@ -1,7 +1,6 @@
 -- What a pull of an engine's one channel does to the state that contracts see.
 use Rattle.std.proofs.Common.{◌≡◌, ℕ, zero, suc, ◌+◌, ◌*◌, ◌<◌, ◌≤◌, Bool, true, false, nat_lt, if◌then◌else◌, List, [], ◌∷◌, ◌++◌, length, map, take, drop, slice_get, slice_index_or, slice_set, Option, None, Some, is_none, IsTrue, not, Result, Ok, Err, OnOk, OnErr, is_err, refl, sym, ap, subst, ◌∙◌, arith, ℤ, length-take, length-drop}
 use Rattle.std.proofs.lemmas.Bool.{lt-ltb}
-use Rattle.std.specs.Option.{option_map}
 use Rattle.ny_num.specs.declared.rate.Rate.{Rate}
 use Rattle.ny_heap.specs.Heap.{HeapState, node_at, list_of, place_of, open_unit, live_of, free_of}
 use Rattle.ny_heap.specs.Means.{Parts, Whole, Means, KeepsMeaning, sound_in}

@@ -1,5 +1,5 @@
 -- What the rows of the families are as units.
-use Rattle.std.proofs.Common.{◌≡◌, ℕ, zero, suc, ◌+◌, ◌-◌, List, [], ◌∷◌, map, Some, None, refl, ap, ◌∙◌, arith, ℤ, pos}
+use Rattle.std.proofs.Common.{◌≡◌, ℕ, zero, suc, ◌+◌, ◌-◌, List, ◌∷◌, map, Some, None, refl, ap, ◌∙◌, arith, ℤ, pos}
 use Rattle.std.specs.List.{range_with_len}
 use Rattle.ny_kernels.specs.Operations.{operation}
 use Rattle.ny_kernels.specs.declared.operation.Op.{Op}

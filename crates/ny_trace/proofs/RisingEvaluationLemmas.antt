@@ -1,5 +1,5 @@
 -- A trace of evaluation adds no more height than the text lets it.
-use Rattle.std.proofs.Common.{◌≡◌, inl, inr, ℕ, zero, suc, ◌+◌, ◌<◌, max, Bool, true, false, if◌then◌else◌, [], ◌∷◌, length, Option, None, Some, refl, subst, arith}
+use Rattle.std.proofs.Common.{◌≡◌, inl, inr, ℕ, zero, suc, ◌+◌, ◌<◌, max, Bool, true, false, if◌then◌else◌, [], ◌∷◌, length, Option, None, Some, refl, arith}
 use Rattle.ny_num.specs.declared.rate.Rate.{Rate}
 use Rattle.ny_resolve.specs.declared.term.NameId.{NameId}
 use Rattle.ny_warp.specs.declared.env.Env.{Env}

@@ -31,7 +31,7 @@ use Rattle.ny_hands.proofs.HeapLemmas.{Length, Empty, Long, length_of}
 use Rattle.ny_hands.specs.declared.branch.Branch.{Branch}
 use Rattle.ny_hands.specs.Calls.{Shares, Places, MakesUnit, ReleasesAll, Brings, Stay, Change, BringsEach, IsSilent}
 use Rattle.ny_hands.specs.Frames.{Names, sounds_among}
-use Rattle.ny_trace.specs.Evaluates.{Trace, NameTurn, ValueTurn, BindsTurn, BlockTurn, ValuesTurn, CallTurn, JoinTurn, OperationTurn, PartsTurn, SimTurn, NextTurn, NextsTurn, KeepTurn, KeepsTurn, sounds_of_values, WaitsTurn, SeqTurn, NodeTurn, Evaluates}
+use Rattle.ny_trace.specs.Evaluates.{Trace, NameTurn, ValueTurn, BindsTurn, ValuesTurn, JoinTurn, PartsTurn, NextsTurn, KeepTurn, KeepsTurn, sounds_of_values, WaitsTurn, NodeTurn, Evaluates}
 use Rattle.ny_trace.specs.Settled.{AllSettled, IsSettling}
 use Rattle.ny_hands.proofs.MarkLemmas.{spent_like, marked_like}
 use Rattle.ny_trace.proofs.HeightLemmas.{ComesFrom, from_trimmed}

@@ -24,7 +24,7 @@ use Rattle.ny_check.specs.declared.value.Scalar.TheVariants as scalar
 use Rattle.ny_check.specs.declared.value.Value.{Value}
 use Rattle.ny_check.specs.declared.value.Value.TheVariants.{Number, Sound as SoundOf}
 use Rattle.ny_check.specs.Code.{Code}
-use Rattle.ny_check.specs.Values.{scalars_of, scalar_of, number_of}
+use Rattle.ny_check.specs.Values.{scalars_of, scalar_of}
 use Rattle.ny_check.specs.Families.{pair_timing, leaf_time, leaf_sound, effect_sound}
 use Rattle.ny_check.specs.Meaning.{Bound, meaning, value_by, value_of, combined_values, negated_value, sound_in as sound_named}
 use Rattle.ny_heap.specs.declared.make.Make.TheVariants.{Leaf as MakesLeaf, Pair}
@@ -37,7 +37,7 @@ use Rattle.ny_hands.specs.Made.{made_of, made_with, made_of_both}
 use Rattle.ny_trace.proofs.FamilyLemmas.{leaf_is, number_first, number_second, same_timing, negated_is}
 use Rattle.ny_hands.proofs.HeardLemmas.{hears_one, hears_two}
 use Rattle.ny_hands.proofs.RateLemmas.{timing_rate}
-use Rattle.ny_hands.specs.Calls.{Shares, MakesUnit, Brings, IsSilent}
+use Rattle.ny_hands.specs.Calls.{MakesUnit, Brings}
 use Rattle.ny_hands.specs.Frames.{Names, sound_at, value_in, bound_in, part_is}
 use Rattle.ny_hands.specs.declared.branch.Branch.{Branch}
 use Rattle.ny_trace.specs.Evaluates.{Trace, NameTurn, IsNoNumber, ValueTurn, JoinTurn, OperationTurn, LeafTurn, EffectTurn, SignTurn}

@@ -21,7 +21,7 @@ use Rattle.ny_check.specs.Parts.{parts_after, next_part}
 use Rattle.ny_check.specs.Meaning.{Bound, meaning, part_of}
 use Rattle.ny_heap.specs.declared.sound.Sound.{Sound}
 use Rattle.ny_heap.specs.Heap.{HeapState}
-use Rattle.ny_heap.specs.Means.{Whole, Means, Extends, parts_from, following, captured_sound}
+use Rattle.ny_heap.specs.Means.{Whole, Extends, parts_from, following, captured_sound}
 use Rattle.ny_heap.specs.Reach.{HeapLaws}
 use Rattle.ny_heap.specs.Steps.{waiting_of, sounds_of, captured_of}
 use Rattle.ny_hands.proofs.RateLemmas.{same_rate}

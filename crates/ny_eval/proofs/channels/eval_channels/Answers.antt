@@ -1,4 +1,4 @@
-use Rattle.std.proofs.Common.{◌≡◌, ◌+◌, [], ◌∷◌, ◌++◌, sym, ap, subst, true}
+use Rattle.std.proofs.Common.{◌≡◌, [], ◌∷◌, ◌++◌, sym, ap, subst, true}
 use Rattle.ny_heap.specs.Heap.{Channel}
 use Rattle.ny_check.specs.declared.node.ExprId.{ExprId}
 use Rattle.ny_hands.proofs.HandLemmas.{hand_none, hand_made, are_held}

@@ -1,4 +1,4 @@
-use Rattle.std.proofs.Common.{rules, ◌+◌, ◌*◌, max, [], ◌∷◌, arith, refl, sym, ap, subst, ◌∙◌}
+use Rattle.std.proofs.Common.{rules, ◌+◌, [], ◌∷◌, arith, refl, sym, ap, subst, ◌∙◌}
 use Rattle.std.proofs.lemmas.Int.{ints}
 use Rattle.ny_hands.proofs.HandLemmas.{hand_none}
 use Rattle.ny_hands.proofs.SpendLemmas.{all_in_hand, all_given_up}

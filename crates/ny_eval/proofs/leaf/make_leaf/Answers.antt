@@ -1,6 +1,4 @@
-use Rattle.std.proofs.Common.{[], ap, ◌∙◌, sym, subst}
-use Rattle.ny_heap.specs.Heap.{Made}
-use Rattle.ny_check.specs.Families.{leaf_sound, leaf_time}
+use Rattle.std.proofs.Common.{[], ◌∙◌}
 use Rattle.ny_hands.proofs.HandLemmas.{hand_none}
 use Rattle.ny_hands.proofs.SpendLemmas.{all_given_up}
 use Rattle.ny_eval.proofs.AnswerLemmas.{on_err}

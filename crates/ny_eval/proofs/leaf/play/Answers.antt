@@ -3,7 +3,6 @@ use Rattle.ny_heap.specs.Heap.{Made}
 use Rattle.ny_heap.specs.declared.make.Make.TheVariants.{Leaf}
 use Rattle.ny_hands.proofs.SpendLemmas.{gives_up_trimmed, unit_made}
 use Rattle.ny_eval.proofs.AnswerLemmas.{if_both, err_one}
-use Rattle.ny_eval.proofs.UnitLemmas.{leaf_made}
 use Rattle.ny_eval.proofs.leaf.play.Goals as goal
 
 pub returns-clause-makes : goal.returns-clause-makes

@@ -1,4 +1,3 @@
-use Rattle.std.proofs.Common.{[], ◌∷◌}
 use Rattle.ny_eval.proofs.AnswerLemmas.{on_err}
 use Rattle.ny_hands.proofs.SpendLemmas.{brought_in_hand, gives_up_alone}
 use Rattle.ny_eval.proofs.unit.with_number.Goals as goal

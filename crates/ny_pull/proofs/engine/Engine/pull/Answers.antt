@@ -1,4 +1,4 @@
-use Rattle.std.proofs.Common.{◌≡◌, inr, ◌+◌, ◌++◌, length, drop, is_err, true, false, None, Some, refl, sym, ap, ◌∙◌, arith}
+use Rattle.std.proofs.Common.{◌≡◌, inr, ◌+◌, ◌++◌, length, drop, is_err, true, false, Some, refl, sym, ap, ◌∙◌, arith}
 use Rattle.ny_pull.specs.declared.fault.PullFault.TheVariants.{PoolFull}
 use Rattle.ny_pull.specs.Engine.{EngineState}
 use Rattle.ny_pull.specs.Inside.{IsEngineInside}
