@@ -1,9 +1,10 @@
 -- Files in memory, by place.
+use Rattle.std.specs.Prelude.{nat_eq}
 use Rattle.std.proofs.Common.{◌≡◌, ℕ, zero, suc, ◌+◌, ◌≤◌, ◌++◌, Bool, true, false, take, List, [], ◌∷◌, drop, length, Some, None, is_some, ap, sym, refl, ◌∙◌, arith, string_bytes}
 use Rattle.std.specs.List.{position_from}
-use Rattle.std.specs.Cmp.Lexicographic.{same_text}
+use Rattle.std.specs.Cmp.Lexicographic.{pointwise, same_text}
 use Rattle.std.proofs.lemmas.List.{take_at, length-take-le, drop-drop, take-append-drop}
-use Rattle.ny_io.specs.Host.{bytes_under}
+use Rattle.ny_io.specs.Host.{Named, bytes_under}
 use Rattle.ny_io.specs.Memory.{has_name}
 use Rattle.ny_io.specs.MemoryFiles.{Entry, file_at, is_named, named_files}
 
@@ -67,6 +68,26 @@ pub name_at-found : (name : List ℕ) (files : List Entry) (place : ℕ) → Som
 name_at-found name files place some = ap (λ file. file.0) (file_at-found name files place some)
 
 pub ruleset found_place = (none_found, some_found, file_at-found, name_at-found)
+
+-- A name that is not there stands for no bytes, as a place past the last file does.
+pub none_under : (name : List ℕ) (files : List Entry) → None ≡ position_from (is_named name) 0 files → bytes_under name (named_files files) ≡ []
+none_under name files none = no_bytes name (named_files files) (none_found name files none)
+  where
+    no_bytes : (name : List ℕ) (files : List Named) → has_name name files ≡ false → bytes_under name files ≡ []
+    no_bytes name [] absent = refl
+    no_bytes name (file ∷ files) absent =
+        let at : (b : Bool) → pointwise nat_eq file.0 name ≡ b → bytes_under name (file ∷ files) ≡ []
+        = elim [
+          | true ↦ λ is. let e : true ≡ false = rw is at absent in cc
+          | false ↦ λ is. rw is (no_bytes name files (rw is at absent))
+        ] in
+        at (pointwise nat_eq file.0 name) refl
+
+pub file_at-past : (files : List Entry) → file_at (named_files files) (length files) ≡ ([], [])
+file_at-past [] = refl
+file_at-past (file ∷ files) = file_at-past files
+
+pub ruleset opened_place = (none_under, file_at-found, file_at-past)
 
 -- What a read hands out, and what is left.
 pub read_next : (file buf : List ℕ) (at count : ℕ) → count ≤ length (drop at file)

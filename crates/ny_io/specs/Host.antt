@@ -37,6 +37,13 @@ pub record NoneFell (old new : HostState) : Type 0 where
   pub creates : (name : List ℕ) → old.creates name ≤ new.creates name
   pub writes : old.writes ≤ new.writes
 
+-- no count of faults changed
+pub record SameCounts (old new : HostState) : Type 0 where
+  pub opens : (name : List ℕ) → new.opens name ≡ old.opens name
+  pub reads : (name : List ℕ) → new.reads name ≡ old.reads name
+  pub creates : (name : List ℕ) → new.creates name ≡ old.creates name
+  pub writes : new.writes ≡ old.writes
+
 -- the input is the same, and the same is told of it
 pub record SameInput (old new : HostState) : Type 0 where
   pub input : new.input ≡ old.input

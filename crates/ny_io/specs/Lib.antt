@@ -3,3 +3,4 @@ pub mod Host
 pub mod Memory
 pub mod MemoryFiles
 pub mod MemoryState
+pub mod NeverFails

@@ -2,7 +2,7 @@ ghost use Rattle.std.specs.Prelude.{◌≡◌, ◌<◌, List, [], ℕ, Some, tak
 ghost use Rattle.std.specs.Io.{ReadsAtMost, WritesAtMost};
 ghost use Rattle.std.specs.Io.KnownBytes.{IsAtEnd, prepend_known, append_known};
 ghost use Rattle.ny_io.specs.Faults.{Rose};
-ghost use Rattle.ny_io.specs.Host.{HostState, NoneFell, SameInput, SameOutput, IsToldAlike, MayBe, bytes_under, written, added};
+ghost use Rattle.ny_io.specs.Host.{HostState, NoneFell, SameCounts, SameInput, SameOutput, IsToldAlike, MayBe, bytes_under, written, added};
 
 /// The one answer of a call that did not succeed. A count of faults says which kind of call it was.
 #[derive(Clone, Copy, Debug, PartialEq, Eq)]
@@ -12,7 +12,8 @@ pub struct Failed;
 ///
 /// At most one input and one output are open, and each has a number. A host counts its faults:
 /// those of `open`, of `read` and of `create` by the file's name, and those of `write` and
-/// `print` together. No count falls, and a call answers [`Failed`] only where its count rose.
+/// `print` together. A count rises only in a call of its kind that answers [`Failed`], and each
+/// such call raises it. At its greatest value it stands still.
 ///
 /// A host may tell its files, what is left of the open input, the created files and what was
 /// printed. What it tells stays told, a successful call changes it as the call's name says, and
@@ -25,6 +26,7 @@ pub trait Host {
         ensures counts { NoneFell (state self.old) (state self.new) }
         ensures cause { OnErr result (
             Rose ((state self.old).opens name.now) ((state self.new).opens name.now)) }
+        ensures quiet { OnOk result (SameCounts (state self.old) (state self.new)) }
         ensures number { IfOk result (λ file. (state self.new).input ≡ Some file) }
         ensures name { OnOk result (MayBe name.now (state self.new).name) }
         ensures name_told { IsToldAlike (state self.old).name (state self.new).name }
@@ -48,6 +50,7 @@ pub trait Host {
         // Where the host doesn't tell the input's name, the count of every name rises.
         ensures cause { OnErr result ((name : List ℕ) → MayBe name (state self.old).name →
             Rose ((state self.old).reads name) ((state self.new).reads name)) }
+        ensures quiet { OnOk result (SameCounts (state self.old) (state self.new)) }
         ensures within { ReadsAtMost result buf.new }
         ensures bytes { MatchResult result
             (λ count. (state self.old).left ≡
@@ -67,6 +70,7 @@ pub trait Host {
         ensures counts { NoneFell (state self.old) (state self.new) }
         ensures cause { OnErr result (
             Rose ((state self.old).creates name.now) ((state self.new).creates name.now)) }
+        ensures quiet { OnOk result (SameCounts (state self.old) (state self.new)) }
         ensures number { IfOk result (λ file. (state self.new).output ≡ Some file) }
         ensures created { OnOk result (
             (state self.new).created ≡ added (name.now, []) (state self.old).created) }
@@ -82,6 +86,7 @@ pub trait Host {
         requires { (state self.old).output ≡ Some file }
         ensures counts { NoneFell (state self.old) (state self.new) }
         ensures cause { OnErr result (Rose (state self.old).writes (state self.new).writes) }
+        ensures quiet { OnOk result (SameCounts (state self.old) (state self.new)) }
         ensures within { WritesAtMost result bytes.now }
         ensures some { IfOk result (λ count. 0 < length bytes.now → 0 < count) }
         ensures bytes { MatchResult result
@@ -99,6 +104,7 @@ pub trait Host {
     fn print(&mut self, bytes: &[u8]) -> Result<usize, Failed>
         ensures counts { NoneFell (state self.old) (state self.new) }
         ensures cause { OnErr result (Rose (state self.old).writes (state self.new).writes) }
+        ensures quiet { OnOk result (SameCounts (state self.old) (state self.new)) }
         ensures within { WritesAtMost result bytes.now }
         ensures some { IfOk result (λ count. 0 < length bytes.now → 0 < count) }
         ensures bytes { MatchResult result

@@ -1,6 +1,6 @@
 ghost use Rattle.std.specs.Prelude.{◌≡◌, ◌≤◌, ◌<◌, ◌+◌, [], Some, length, drop, IfOk, OnOk, IfSome, IsErrOf};
 ghost use Rattle.ny_io.specs.Faults.{Rose};
-ghost use Rattle.ny_io.specs.Host.{NoneFell, SameInput, SameOutput, bytes_under};
+ghost use Rattle.ny_io.specs.Host.{NoneFell, SameCounts, SameInput, SameOutput, bytes_under};
 
 use crate::host::Host;
 use std::alloc::Global;
@@ -45,6 +45,13 @@ pub fn read_all<H: Host>(
         Rose ((H.state host.old).opens name.now) ((H.state host.new).opens name.now) }
     ensures read { IsErrOf result LoadFault.Read →
         Rose ((H.state host.old).reads name.now) ((H.state host.new).reads name.now) }
+
+    // No count changed but that of the fault that is answered.
+    ensures quiet { OnOk result (SameCounts (H.state host.old) (H.state host.new)) }
+    ensures quiet_too_long { IsErrOf result LoadFault.TooLong →
+        SameCounts (H.state host.old) (H.state host.new) }
+    ensures quiet_memory { IsErrOf result LoadFault.OutOfMemory →
+        SameCounts (H.state host.old) (H.state host.new) }
 
     // At the limit: more bytes than it are refused, and no others.
     ensures too_long { IsErrOf result LoadFault.TooLong → IfSome (H.state host.old).files (λ files.

@@ -3,7 +3,7 @@ ghost use Rattle.std.specs.List.{position_from};
 ghost use Rattle.std.specs.Io.{ReadsAtMost, WritesAtMost};
 ghost use Rattle.std.specs.Io.KnownBytes.{IsAtEnd, prepend_known, append_known};
 ghost use Rattle.ny_io.specs.Faults.{Rose};
-ghost use Rattle.ny_io.specs.Host.{NoneFell, SameInput, SameOutput, IsToldAlike, MayBe, bytes_under, written, added};
+ghost use Rattle.ny_io.specs.Host.{NoneFell, SameCounts, SameInput, SameOutput, IsToldAlike, MayBe, bytes_under, written, added};
 ghost use Rattle.ny_io.specs.MemoryFiles.{named_files, file_at, is_named};
 
 use crate::host::{Failed, Host};
@@ -48,9 +48,9 @@ impl Schedule {
 
 /// Where the open input stands: the place of its file, and how many of its bytes were read.
 #[derive(Clone, Copy, Debug)]
-struct Place {
-    file: usize,
-    at: usize,
+pub(crate) struct Place {
+    pub(crate) file: usize,
+    pub(crate) at: usize,
 }
 
 /// The number of the open input.
@@ -86,14 +86,14 @@ pub struct MemHost {
 }
 
 /// The place of the first file of that name.
-fn place_of(files: &[(String, Vec<u8>)], name: &str) -> Option<usize>
+pub(crate) fn place_of(files: &[(String, Vec<u8>)], name: &str) -> Option<usize>
     ensures { result ≡ position_from (is_named name.now) 0 files.now }
 {
     files.iter().position(|file| file.0.as_str() == name)
 }
 
 /// The bytes of a file from a place on.
-fn rest_of(files: &[(String, Vec<u8>)], file: usize, at: usize) -> &[u8]
+pub(crate) fn rest_of(files: &[(String, Vec<u8>)], file: usize, at: usize) -> &[u8]
     ensures rest { result.now ≡ drop at (file_at (named_files files.now) file).1 }
     ensures fits { at + length result.now < 2 ^ 64 }
 {
@@ -190,6 +190,7 @@ impl Host for MemHost {
         ensures counts { NoneFell (state_of self.old) (state_of self.new) }
         ensures cause { OnErr result (
             Rose ((state_of self.old).opens name.now) ((state_of self.new).opens name.now)) }
+        ensures quiet { OnOk result (SameCounts (state_of self.old) (state_of self.new)) }
         ensures number { IfOk result (λ file. (state_of self.new).input ≡ Some file) }
         ensures name { OnOk result (MayBe name.now (state_of self.new).name) }
         ensures name_told { IsToldAlike (state_of self.old).name (state_of self.new).name }
@@ -225,6 +226,7 @@ impl Host for MemHost {
         ensures counts { NoneFell (state_of self.old) (state_of self.new) }
         ensures cause { OnErr result ((name : List ℕ) → MayBe name (state_of self.old).name →
             Rose ((state_of self.old).reads name) ((state_of self.new).reads name)) }
+        ensures quiet { OnOk result (SameCounts (state_of self.old) (state_of self.new)) }
         ensures within { ReadsAtMost result buf.new }
         ensures bytes { MatchResult result
             (λ count. (state_of self.old).left ≡
@@ -264,6 +266,7 @@ impl Host for MemHost {
         ensures counts { NoneFell (state_of self.old) (state_of self.new) }
         ensures cause { OnErr result (
             Rose ((state_of self.old).creates name.now) ((state_of self.new).creates name.now)) }
+        ensures quiet { OnOk result (SameCounts (state_of self.old) (state_of self.new)) }
         ensures number { IfOk result (λ file. (state_of self.new).output ≡ Some file) }
         ensures created { OnOk result (
             (state_of self.new).created ≡ added (name.now, []) (state_of self.old).created) }
@@ -294,6 +297,7 @@ impl Host for MemHost {
         requires { (state_of self.old).output ≡ Some file }
         ensures counts { NoneFell (state_of self.old) (state_of self.new) }
         ensures cause { OnErr result (Rose (state_of self.old).writes (state_of self.new).writes) }
+        ensures quiet { OnOk result (SameCounts (state_of self.old) (state_of self.new)) }
         ensures within { WritesAtMost result bytes.now }
         ensures some { IfOk result (λ count. 0 < length bytes.now → 0 < count) }
         ensures bytes { MatchResult result
@@ -329,6 +333,7 @@ impl Host for MemHost {
     fn print(&mut self, bytes: &[u8]) -> Result<usize, Failed>
         ensures counts { NoneFell (state_of self.old) (state_of self.new) }
         ensures cause { OnErr result (Rose (state_of self.old).writes (state_of self.new).writes) }
+        ensures quiet { OnOk result (SameCounts (state_of self.old) (state_of self.new)) }
         ensures within { WritesAtMost result bytes.now }
         ensures some { IfOk result (λ count. 0 < length bytes.now → 0 < count) }
         ensures bytes { MatchResult result

@@ -1,6 +1,6 @@
 use Rattle.std.proofs.Common.{length, ◌-◌, ◌≡◌, ◌≤◌, take}
 use Rattle.std.specs.Io.KnownBytes.{append_known}
-use Rattle.ny_io.specs.Host.{NoneFell, SameInput, SameOutput}
+use Rattle.ny_io.specs.Host.{NoneFell, SameCounts, SameInput, SameOutput}
 use Rattle.ny_io.proofs.store.print_all.Given as goal
 
 -- the first bytes are printed
@@ -11,6 +11,7 @@ invariant-loop-printed g l =
     record {
       within : l.printed ≤ length l.bytes;
       counts : NoneFell start now;
+      quiet : SameCounts start now;
       part : now.printed ≡ append_known start.printed (take l.printed l.bytes);
       output : SameOutput start now;
       input : SameInput start now;

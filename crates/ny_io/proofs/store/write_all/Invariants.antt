@@ -1,5 +1,5 @@
 use Rattle.std.proofs.Common.{length, ◌-◌, ◌≡◌, ◌≤◌, Some, take}
-use Rattle.ny_io.specs.Host.{NoneFell, SameInput, written}
+use Rattle.ny_io.specs.Host.{NoneFell, SameCounts, SameInput, written}
 use Rattle.ny_io.proofs.store.write_all.Given as goal
 
 -- the first bytes are written
@@ -10,6 +10,7 @@ invariant-loop-done g l =
     record {
       within : l.done ≤ length l.bytes;
       counts : NoneFell start now;
+      quiet : SameCounts start now;
       part : now.created ≡ written (take l.done l.bytes) start.created;
       output : now.output ≡ Some l.file;
       input : SameInput start now;
