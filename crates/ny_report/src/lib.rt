@@ -6,5 +6,5 @@
 mod full;
 mod refusal;
 
-pub use full::full_line;
+pub use full::{FullLine, full_line};
 pub use refusal::refusal_line;
