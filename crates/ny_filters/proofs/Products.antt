@@ -12,11 +12,11 @@ use Rattle.ny_filters.specs.Sizes.{is_small, each_holds}
 at_most : (a b : ℤ) → le_z a b ≡ true → a ≤ℤ b
 at_most a b e = record { le = T_from_true (le_z a b) e }
 
-abs_small : (z : ℤ) → is_small z ≡ true → unsigned_abs z ≤ 536870912
+abs_small : (z : ℤ) → is_small z ≡ true → unsigned_abs z ≤ 268435456
 abs_small z is =
-    let p = and_parts (le_z (neg_ℤ (pos 536870912)) z) (le_z z (pos 536870912)) is in
-    let low = at_most (neg_ℤ (pos 536870912)) z p.0 in
-    let high = at_most z (pos 536870912) p.1 in
+    let p = and_parts (le_z (neg_ℤ (pos 268435456)) z) (le_z z (pos 268435456)) is in
+    let low = at_most (neg_ℤ (pos 268435456)) z p.0 in
+    let high = at_most z (pos 268435456) p.1 in
     omega (arith, ints, low, high)
 
 abs_difference : (z : ℤ) → neg_ℤ (pos 4294967294) ≤ℤ z → z ≤ℤ pos 4294967294 → unsigned_abs z ≤ 4294967294
@@ -28,7 +28,7 @@ between z h = (omega (arith, ints, h), omega (arith, ints, h))
 pub product_small : (factor times : ℤ) → is_small factor ≡ true → neg_ℤ (pos 4294967294) ≤ℤ times → times ≤ℤ pos 4294967294
     → (neg_ℤ (pos 2305843009213693952) ≤ℤ (factor *ℤ times)) × ((factor *ℤ times) ≤ℤ pos 2305843009213693952)
 product_small factor times small low high =
-    between (factor *ℤ times) (omega (arith, unsigned_abs-mul factor times, mul-le (unsigned_abs factor) (unsigned_abs times) 536870912 4294967294 (abs_small factor small) (abs_difference times low high)))
+    between (factor *ℤ times) (omega (arith, unsigned_abs-mul factor times, mul-le (unsigned_abs factor) (unsigned_abs times) 268435456 4294967294 (abs_small factor small) (abs_difference times low high)))
 
 fits : (z : ℤ) → (neg_ℤ (pos 2305843009213693952) ≤ℤ z) × (z ≤ℤ pos 2305843009213693952) → FitsSigned w64 z
 fits z h = omega (arith, ints, h.0, h.1)
@@ -48,9 +48,9 @@ units_within (negsuc n) low high = (omega (arith, ints, low, high), omega (arith
 
 -- no more than a small number times a sample
 abbrev pub IsShort : ℤ → Type 0
-IsShort z = (neg_ℤ (pos 1152921504606846976) ≤ℤ z) × (z ≤ℤ pos 1152921504606846976)
+IsShort z = (neg_ℤ (pos 576460752303423488) ≤ℤ z) × (z ≤ℤ pos 576460752303423488)
 
-short_between : (z : ℤ) → unsigned_abs z ≤ 1152921504606846976 → IsShort z
+short_between : (z : ℤ) → unsigned_abs z ≤ 576460752303423488 → IsShort z
 short_between z h = (omega (arith, ints, h), omega (arith, ints, h))
 
 abs_sample : (z : ℤ) → IsSample z → unsigned_abs z ≤ 2147483647
@@ -58,7 +58,7 @@ abs_sample z is = omega (arith, ints, is.0, is.1)
 
 pub weight_short : (factor x : ℤ) → is_small factor ≡ true → IsSample x → IsShort (factor *ℤ x)
 weight_short factor x small is =
-    short_between (factor *ℤ x) (omega (arith, unsigned_abs-mul factor x, mul-le (unsigned_abs factor) (unsigned_abs x) 536870912 2147483647 (abs_small factor small) (abs_sample x is)))
+    short_between (factor *ℤ x) (omega (arith, unsigned_abs-mul factor x, mul-le (unsigned_abs factor) (unsigned_abs x) 268435456 2147483647 (abs_small factor small) (abs_sample x is)))
 
 short_fits : (z : ℤ) → IsShort z → FitsSigned w64 z
 short_fits z h = omega (arith, ints, h.0, h.1)
@@ -70,14 +70,29 @@ weight_exact factor x a b f s small is fa fb =
     ∙ ap (λ z. to_z w64 (of_z w64 (factor *ℤ z))) (to_z-of_z w64 b fb ∙ s)
     ∙ to_z-of_z w64 (factor *ℤ x) (short_fits (factor *ℤ x) (weight_short factor x small is))
 
-pub three_short : (a b c : ℤ) → IsShort a → IsShort b → IsShort c → FitsSigned w64 (a +ℤ b +ℤ c)
-three_short a b c p q r = omega (arith, ints, p.0, p.1, q.0, q.1, r.0, r.1)
+-- ---- weighed sums, lifted above 0
 
-pub four_short : (a b c d : ℤ) → IsShort a → IsShort b → IsShort c → IsShort d → FitsSigned w64 (a +ℤ b +ℤ c +ℤ d)
-four_short a b c d p q r s = omega (arith, ints, p.0, p.1, q.0, q.1, r.0, r.1, s.0, s.1)
+abbrev Lift : ℤ
+Lift = pos 2882303761518000000
 
-pub five_short : (a b c d e : ℤ) → IsShort a → IsShort b → IsShort c → IsShort d → IsShort e → FitsSigned w64 (a +ℤ b +ℤ c +ℤ d +ℤ e)
-five_short a b c d e p q r s t = omega (arith, ints, p.0, p.1, q.0, q.1, r.0, r.1, s.0, s.1, t.0, t.1)
+pub two_lifted : (a b : ℤ) → IsShort a → IsShort b → FitsSigned w64 (Lift +ℤ a +ℤ b)
+two_lifted a b p q = omega (arith, ints, p.0, p.1, q.0, q.1)
+
+pub three_lifted : (a b c : ℤ) → IsShort a → IsShort b → IsShort c → FitsSigned w64 (Lift +ℤ a +ℤ b +ℤ c)
+three_lifted a b c p q r = omega (arith, ints, p.0, p.1, q.0, q.1, r.0, r.1)
+
+pub four_lifted : (a b c d : ℤ) → IsShort a → IsShort b → IsShort c → IsShort d → FitsSigned w64 (Lift +ℤ a +ℤ b +ℤ c +ℤ d)
+four_lifted a b c d p q r s = omega (arith, ints, p.0, p.1, q.0, q.1, r.0, r.1, s.0, s.1)
+
+pub five_lifted : (a b c d e : ℤ) → IsShort a → IsShort b → IsShort c → IsShort d → IsShort e → FitsSigned w64 (Lift +ℤ a +ℤ b +ℤ c +ℤ d +ℤ e)
+five_lifted a b c d e p q r s t = omega (arith, ints, p.0, p.1, q.0, q.1, r.0, r.1, s.0, s.1, t.0, t.1)
+
+pub above_zero : (a b c d e : ℤ) → IsShort a → IsShort b → IsShort c → IsShort d → IsShort e → pos 0 ≤ℤ (Lift +ℤ a +ℤ b +ℤ c +ℤ d +ℤ e)
+above_zero a b c d e p q r s t = omega (arith, ints, p.0, p.1, q.0, q.1, r.0, r.1, s.0, s.1, t.0, t.1)
+
+-- the order in which they are added does not matter
+pub other_order : (a b c d e : ℤ) → Lift +ℤ a +ℤ b +ℤ c +ℤ d +ℤ e ≡ a +ℤ b +ℤ c +ℤ e +ℤ d +ℤ Lift
+other_order a b c d e = omega (arith, ints)
 
 -- what holds of each number of a filter
 pub record OfEach (holds : ℤ → Bool) (c : Coefficients) : Type 0 where

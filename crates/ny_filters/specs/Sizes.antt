@@ -3,9 +3,9 @@ use Rattle.std.specs.Prelude.{Bool, true, ◌&&◌, ℤ, pos, neg_ℤ}
 use Rattle.std.specs.Int.Signed.{le_z}
 use Rattle.ny_num.specs.Filters.{Coefficients}
 
--- no more than 2^29 millionths on either side of 0
+-- no more than 2^28 millionths on either side of 0
 abbrev pub is_small : ℤ → Bool
-is_small z = le_z (neg_ℤ (pos 536870912)) z && le_z z (pos 536870912)
+is_small z = le_z (neg_ℤ (pos 268435456)) z && le_z z (pos 268435456)
 
 -- each number
 abbrev pub is_any : ℤ → Bool

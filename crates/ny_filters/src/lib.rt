@@ -7,10 +7,13 @@ mod biquad;
 mod comb;
 mod exact;
 mod filter;
+mod lifted;
 mod one_pole;
 mod recent;
+mod share;
 mod stage;
 mod unit;
+mod weighing;
 mod width;
 
 pub use filter::Filter;

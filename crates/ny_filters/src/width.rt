@@ -1,11 +1,11 @@
-ghost use Rattle.std.specs.Prelude.{FitsSigned, ◌≡◌, ℤ, Bool, true, ◌+ℤ◌, ◌*ℤ◌, ◌≤ℤ◌, pos, neg_ℤ};
-ghost use Rattle.std.specs.Int.{w64};
+ghost use Rattle.std.specs.Prelude.{◌≡◌, ℤ, Bool, true, ◌+ℤ◌, ◌*ℤ◌, ◌≤ℤ◌, pos, neg_ℤ};
 ghost use Rattle.ny_num.specs.Numbers.{million, floor_div, sat_sample};
 ghost use Rattle.ny_filters.specs.Sizes.{is_small, is_any, each_holds};
 ghost use Rattle.ny_num.specs.Filters.{biquad_value};
 
 use crate::exact::{nearest, product, sum, units, weight};
 use crate::recent::{Coefficients, Recent};
+use crate::weighing::{lifted_units, sample_of};
 use ny_num::{Fix, Sample};
 
 /// How many bits the products of a filter are computed with, known where its loop is compiled.
@@ -25,7 +25,7 @@ pub(crate) trait Width {
         ensures { result ≡ biquad_value c.now recent.now input };
 }
 
-/// 64 bits, for numbers up to 2^29 millionths.
+/// 64 bits, for numbers up to 2^28 millionths.
 pub(crate) struct Narrow;
 
 /// 128 bits, for each number.
@@ -42,35 +42,6 @@ fn short_product(factor: i64, times: i64) -> i64
     ensures high { result ≤ℤ pos 2305843009213693952 }
 {
     factor * times
-}
-
-// The exact product of a small number and a sample.
-fn short_weight(factor: Fix, sample: Sample) -> i64
-    requires small { is_small factor ≡ true }
-    ensures value { result ≡ factor *ℤ sample }
-    ensures low { neg_ℤ (pos 1152921504606846976) ≤ℤ result }
-    ensures high { result ≤ℤ pos 1152921504606846976 }
-{
-    factor.micro() * i64::from(sample.micro())
-}
-
-// The exact sum, where it fits.
-fn short_plus(a: i64, b: i64) -> i64
-    requires { FitsSigned w64 (a +ℤ b) }
-    ensures { result ≡ a +ℤ b }
-{
-    a + b
-}
-
-// The weighed sum of a filter with small numbers.
-fn short_sum(c: &Coefficients, recent: &Recent, input: Sample) -> i64
-    requires { each_holds is_small c.now ≡ true }
-    ensures { result ≡ c.now.b0 *ℤ input +ℤ c.now.b1 *ℤ recent.now.x1 +ℤ c.now.b2 *ℤ recent.now.x2 +ℤ c.now.a1 *ℤ recent.now.y1 +ℤ c.now.a2 *ℤ recent.now.y2 }
-{
-    let inputs = short_plus(short_weight(c.b0, input), short_weight(c.b1, recent.x1));
-    let inputs = short_plus(inputs, short_weight(c.b2, recent.x2));
-    let all = short_plus(inputs, short_weight(c.a1, recent.y1));
-    short_plus(all, short_weight(c.a2, recent.y2))
 }
 
 // The weighed sum of a filter.
@@ -102,10 +73,8 @@ impl Width for Narrow {
         Sample::of(i64::from(to.micro()) + short_units(short_product(factor.micro(), times)))
     }
 
-    #[tactic(auto, unfolding(ny_num::specs::Filters::biquad_value))]
     fn weighed(c: &Coefficients, recent: &Recent, input: Sample) -> Sample {
-        let inputs = short_sum(c, recent, input);
-        Sample::of(inputs.div_euclid(1_000_000))
+        sample_of(lifted_units(c, recent, input))
     }
 }
 
@@ -130,7 +99,7 @@ pub(crate) fn is_small(factor: Fix) -> bool
     ensures { result ≡ is_small factor }
 {
     let micro = factor.micro();
-    -536_870_912 <= micro && micro <= 536_870_912
+    -268_435_456 <= micro && micro <= 268_435_456
 }
 
 /// Whether 64 bits hold the weighed sum of a filter with these numbers.

@@ -2,7 +2,7 @@ use Rattle.std.proofs.Common.{◌≡◌, ◌*ℤ◌, ◌≤ℤ◌, pos, neg_ℤ,
 use Rattle.std.proofs.lemmas.Int.{ints}
 use Rattle.ny_num.specs.Numbers.{IsSample}
 use Rattle.ny_filters.proofs.Products.{weight_short, weight_exact}
-use Rattle.ny_filters.proofs.width.short_weight.Goals as goal
+use Rattle.ny_filters.proofs.weighing.short_weight.Goals as goal
 
 sample : (c : goal.After-from) → IsSample c.args.sample
 sample c = subst IsSample c.micro-2.ensures.value c.micro-2.ensures.within
@@ -14,7 +14,7 @@ pub returns-clause-value : goal.returns-clause-value
 returns-clause-value c = exact c
 
 pub returns-clause-low : goal.returns-clause-low
-returns-clause-low c = subst (λ z. neg_ℤ (pos 1152921504606846976) ≤ℤ z) (sym (exact c)) (weight_short c.args.factor c.args.sample c.requires.small (sample c)).0
+returns-clause-low c = subst (λ z. neg_ℤ (pos 576460752303423488) ≤ℤ z) (sym (exact c)) (weight_short c.args.factor c.args.sample c.requires.small (sample c)).0
 
 pub returns-clause-high : goal.returns-clause-high
-returns-clause-high c = subst (λ z. z ≤ℤ pos 1152921504606846976) (sym (exact c)) (weight_short c.args.factor c.args.sample c.requires.small (sample c)).1
+returns-clause-high c = subst (λ z. z ≤ℤ pos 576460752303423488) (sym (exact c)) (weight_short c.args.factor c.args.sample c.requires.small (sample c)).1

@@ -1,0 +1,5 @@
+use Rattle.ny_filters.proofs.Folds.{BiquadSoFar}
+use Rattle.ny_filters.proofs.biquad.run_within.Given as goal
+
+abbrev pub invariant-loop-k : goal.invariant-loop-k
+invariant-loop-k l = BiquadSoFar l.c l.fn.before l.recent l.k l.input l.out
