@@ -4,3 +4,4 @@ pub mod Forms
 pub mod Rates
 pub mod PartSizes
 pub mod AgainLaws
+pub mod ParamSteps

@@ -2,7 +2,7 @@ ghost use Rattle.std.specs.Prelude.{◌≡◌, bytes_eq, codes, Some, None};
 ghost use Rattle.ny_resolve.specs.Builtins.{leaf_named, filter_named, change_named, special_named, builtin_of, arity_of, operator_arity, fits, is_map};
 
 /// A relation between two numbers.
-#[derive(Clone, Copy, Debug, PartialEq, Eq)]
+#[derive(Clone, Copy, PartialEq, Eq)]
 pub enum Relation {
     Eq,
     Ne,
@@ -13,7 +13,7 @@ pub enum Relation {
 }
 
 /// An operator with its operands, in the order in which the text has them.
-#[derive(Clone, Copy, Debug, PartialEq, Eq)]
+#[derive(Clone, Copy, PartialEq, Eq)]
 pub enum Operator {
     Add,
     Sub,
@@ -57,7 +57,7 @@ pub enum Operator {
 }
 
 /// Whether the parts of a repeat sound together or one after the other.
-#[derive(Clone, Copy, Debug, PartialEq, Eq)]
+#[derive(Clone, Copy, PartialEq, Eq)]
 pub enum Order {
     /// `simrep`
     Together,
@@ -66,7 +66,7 @@ pub enum Order {
 }
 
 /// Which rate of the environment a change of rate is about.
-#[derive(Clone, Copy, Debug, PartialEq, Eq)]
+#[derive(Clone, Copy, PartialEq, Eq)]
 pub enum Rated {
     /// `sound-srate-abs`
     Sound,
@@ -75,7 +75,7 @@ pub enum Rated {
 }
 
 /// What a built-in name calls.
-#[derive(Clone, Copy, Debug, PartialEq, Eq)]
+#[derive(Clone, Copy, PartialEq, Eq)]
 pub enum Builtin {
     /// An operator on all its arguments.
     Apply(Operator),
@@ -88,7 +88,7 @@ pub enum Builtin {
 }
 
 /// How many arguments a built-in takes.
-#[derive(Clone, Copy, Debug, PartialEq, Eq)]
+#[derive(Clone, Copy, PartialEq, Eq)]
 pub enum Arity {
     Exactly(u32),
     Odd,

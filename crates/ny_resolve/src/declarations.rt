@@ -1,16 +1,17 @@
-ghost use Rattle.std.specs.Prelude.{◌≡◌, ◌≤◌, ◌<◌, ◌+◌, ◌^◌, IfOk, OnOk, map, [], ◌∷◌, length, bytes_eq, ℕ};
+ghost use Rattle.std.specs.Prelude.{◌≡◌, ◌≤◌, ◌<◌, ◌+◌, ◌^◌, IfOk, OnOk, map, [], ◌∷◌, ◌++◌, length, bytes_eq, ℕ};
 ghost use Rattle.ny_resolve.specs.declared.names.Names.{Names as NamesOf};
 ghost use Rattle.indexmap.specs.IndexMap.{insert_entry};
-ghost use Rattle.ny_syntax.specs.Sizes.{total, declaration_size, play_size, tree_size};
-ghost use Rattle.ny_resolve.specs.Sizes.{declared_size, played_size, text_size};
+ghost use Rattle.ny_syntax.specs.Sizes.{total, size_of, declaration_size, play_size, tree_size};
+ghost use Rattle.ny_resolve.specs.Sizes.{size_of_part, declared_size, played_size, text_size};
 ghost use Rattle.ny_resolve.specs.Faults.{earliest, earliest_after};
-ghost use Rattle.ny_resolve.specs.Names.{scope_of};
+ghost use Rattle.ny_resolve.specs.Names.{scope_of, with_local, again_faults, seen_after};
+ghost use Rattle.ny_resolve.specs.Reading.{reading};
 ghost use Rattle.ny_resolve.specs.Declarations.{declare, declare_faults, declared_after, names_faults, nothing_declared, function_is_taken, param_names, with_params, params_faults, declaration_read, declarations_read, scope_in, play_read, tree_read, declaring_of};
 
 use crate::builtin::built_in;
 use crate::fault::{CheckWhy, Fault, noted};
 use crate::names::{Called, Names, function_named, variable_named};
-use crate::reading::{note_again, read_expr};
+use crate::reading::{Read, note_again, read_expr};
 use crate::term::{Declared, NameId, Part};
 use crate::word::Word;
 use indexmap::IndexMap;
@@ -20,7 +21,7 @@ use sqlite_items::Items;
 use std::alloc::{AllocError, Global};
 
 /// A text that was read, and the first of the faults that it shows before any kind is known.
-#[derive(Debug, Drop)]
+#[derive(Drop)]
 pub struct ReadTree {
     pub declared: Items<Declared>,
     pub play: Option<Part>,
@@ -72,7 +73,7 @@ fn declare<'t>(
 }
 
 /// What a text declares.
-#[derive(Debug, Drop)]
+#[derive(Drop)]
 struct AllNames<'t> {
     names: Names<'t>,
     first: Option<Fault>,
@@ -96,47 +97,123 @@ fn all_names<'t>(alloc: Global, declarations: &'t [Decl]) -> Result<AllNames<'t>
     Ok(AllNames { names, first })
 }
 
-/// Parameters that were read, and the first of the faults so far.
-#[derive(Debug, Drop)]
-struct ReadList {
-    params: Items<NameId>,
+/// Binds one more parameter, and notes whether the list has it already.
+fn bind_param<'t>(
+    seen: &mut IndexMap<Word<'t>, NameId>,
+    locals: &mut Scope<Word<'t>, NameId>,
+    param: &'t Param,
     first: Option<Fault>,
+) -> Result<Option<Fault>, AllocError>
+    ensures seen { OnOk result (seen.new.entries ≡ seen_after seen.old.entries param.now.name.bytes param.now.at) }
+    ensures bound { (names : NamesOf) → (here : ℕ) → OnOk result (scope_of names here locals.new ≡ with_local param.now.name.bytes param.now.at (scope_of names here locals.old)) }
+    ensures first { IfOk result (λ f. f ≡ earliest_after first (again_faults seen.old.entries param.now.name.bytes param.now.at)) }
+{
+    locals.bind(Word::of(&param.name), NameId(param.at))?;
+    note_again(seen, Word::of(&param.name), param.at, first)
 }
 
-/// Reads the parameters of a function, and binds them.
+/// Binds parameters, and notes each that the list has already.
 #[tactic(auto, using(crate::proofs::Earliest::told))]
+fn bind_params<'t>(
+    seen: &mut IndexMap<Word<'t>, NameId>,
+    locals: &mut Scope<Word<'t>, NameId>,
+    params: &'t [Param],
+    first: Option<Fault>,
+) -> Result<Option<Fault>, AllocError>
+    ensures bound { (names : NamesOf) → (here : ℕ) → OnOk result (scope_of names here locals.new ≡ with_params params.now (scope_of names here locals.old)) }
+    ensures first { IfOk result (λ f. f ≡ earliest_after first (params_faults params.now seen.old.entries)) }
+{
+    let mut first = first;
+    for param in params {
+        first = bind_param(seen, locals, param, first)?;
+    }
+    Ok(first)
+}
+
+/// The names of parameters.
+fn param_names(alloc: Global, params: &[Param]) -> Result<Items<NameId>, AllocError>
+    ensures { IfOk result (λ names. names ≡ param_names params.now) }
+{
+    let mut names = Items::new(alloc);
+    for param in params {
+        names.push(NameId(param.at))?;
+    }
+    Ok(names)
+}
+
+/// The first fault where parameters are bound.
 fn params_read<'t>(
     alloc: Global,
     locals: &mut Scope<Word<'t>, NameId>,
     params: &'t [Param],
     first: Option<Fault>,
-) -> Result<ReadList, AllocError>
-    ensures params { IfOk result (λ r. r.params ≡ param_names params.now) }
+) -> Result<Option<Fault>, AllocError>
     ensures bound { (names : NamesOf) → (here : ℕ) → OnOk result (scope_of names here locals.new ≡ with_params params.now (scope_of names here locals.old)) }
-    ensures first { IfOk result (λ r. r.first ≡ earliest_after first (params_faults params.now [])) }
+    ensures first { IfOk result (λ f. f ≡ earliest_after first (params_faults params.now [])) }
 {
     let mut seen = IndexMap::new(alloc);
-    let mut done = Items::new(alloc);
-    let mut first = first;
-    for param in params {
-        first = note_again(&mut seen, Word::of(&param.name), param.at, first)?;
-        locals.bind(Word::of(&param.name), NameId(param.at))?;
-        done.push(NameId(param.at))?;
-    }
-    Ok(ReadList {
-        params: done,
-        first,
-    })
+    bind_params(&mut seen, locals, params, first)
 }
 
 /// One declaration that was read.
-#[derive(Debug, Drop)]
+#[derive(Drop)]
 struct ReadDeclaration {
     declared: Declared,
     first: Option<Fault>,
 }
 
+/// Reads an expression that sees no local name.
+fn read_alone<'t>(
+    alloc: Global,
+    names: &Names<'t>,
+    here: u32,
+    e: &'t Expr,
+    first: Option<Fault>,
+) -> Result<Read, AllocError>
+    ensures part { IfOk result (λ r. r.part ≡ ((reading e.now).read (scope_of names.now here [])).part) }
+    ensures first { IfOk result (λ r. r.first ≡ earliest_after first ((reading e.now).read (scope_of names.now here [])).faults) }
+    ensures small { IfOk result (λ r. size_of_part r.part ≤ size_of e.now) }
+{
+    read_expr(alloc, names, here, &mut Scope::new(alloc), e, first)
+}
+
+/// Reads the body of a function in a scope, behind its parameters.
 #[tactic(auto, using(crate::proofs::Earliest::told))]
+fn read_within<'t>(
+    alloc: Global,
+    names: &Names<'t>,
+    here: u32,
+    locals: &mut Scope<Word<'t>, NameId>,
+    params: &'t [Param],
+    body: &'t Expr,
+    first: Option<Fault>,
+) -> Result<Read, AllocError>
+    ensures part { IfOk result (λ r. r.part ≡ ((reading body.now).read (with_params params.now (scope_of names.now here locals.old))).part) }
+    ensures first { IfOk result (λ r. r.first ≡ earliest_after first (params_faults params.now [] ++ ((reading body.now).read (with_params params.now (scope_of names.now here locals.old))).faults)) }
+    ensures small { IfOk result (λ r. size_of_part r.part ≤ size_of body.now) }
+{
+    let first = params_read(alloc, locals, params, first)?;
+    let body = read_expr(alloc, names, here, locals, body, first)?;
+    Ok(body)
+}
+
+/// Reads the body of a function, which sees its parameters.
+fn read_body<'t>(
+    alloc: Global,
+    names: &Names<'t>,
+    here: u32,
+    params: &'t [Param],
+    body: &'t Expr,
+    first: Option<Fault>,
+) -> Result<Read, AllocError>
+    ensures part { IfOk result (λ r. r.part ≡ ((reading body.now).read (with_params params.now (scope_of names.now here []))).part) }
+    ensures first { IfOk result (λ r. r.first ≡ earliest_after first (params_faults params.now [] ++ ((reading body.now).read (with_params params.now (scope_of names.now here []))).faults)) }
+    ensures small { IfOk result (λ r. size_of_part r.part ≤ size_of body.now) }
+{
+    let mut locals = Scope::new(alloc);
+    read_within(alloc, names, here, &mut locals, params, body, first)
+}
+
 fn declaration_read<'t>(
     alloc: Global,
     names: &Names<'t>,
@@ -148,14 +225,14 @@ fn declaration_read<'t>(
     ensures first { IfOk result (λ r. r.first ≡ earliest_after first (declaration_read declaration.now (scope_of names.now here [])).faults) }
     ensures small { IfOk result (λ r. declared_size r.declared ≤ declaration_size declaration.now) }
 {
-    let mut locals = Scope::new(alloc);
     match declaration {
         Decl::Function { params, body, .. } => {
-            let params = params_read(alloc, &mut locals, params.as_slice(), first)?;
-            let body = read_expr(alloc, names, here, &mut locals, body, params.first)?;
+            let params = params.as_slice();
+            let names_of = param_names(alloc, params)?;
+            let body = read_body(alloc, names, here, params, body, first)?;
             Ok(ReadDeclaration {
                 declared: Declared {
-                    params: params.params,
+                    params: names_of,
                     body: body.part,
                     is_variable: false,
                 },
@@ -163,7 +240,7 @@ fn declaration_read<'t>(
             })
         }
         Decl::Variable { value, .. } => {
-            let value = read_expr(alloc, names, here, &mut locals, value, first)?;
+            let value = read_alone(alloc, names, here, value, first)?;
             Ok(ReadDeclaration {
                 declared: Declared {
                     params: Items::new(alloc),
@@ -177,7 +254,7 @@ fn declaration_read<'t>(
 }
 
 /// Declarations that were read.
-#[derive(Debug, Drop)]
+#[derive(Drop)]
 struct ReadDeclared {
     declared: Items<Declared>,
     first: Option<Fault>,
@@ -232,8 +309,7 @@ fn play_read<'t>(
             first: noted(CheckWhy::NoPlay, end, first),
         }),
         Some(e) => {
-            let mut locals = Scope::new(alloc);
-            let played = read_expr(alloc, names, here, &mut locals, e, first)?;
+            let played = read_alone(alloc, names, here, e, first)?;
             Ok(ReadTree {
                 declared,
                 play: Some(played.part),

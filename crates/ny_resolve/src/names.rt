@@ -8,14 +8,14 @@ use crate::word::Word;
 use indexmap::IndexMap;
 
 /// What a call sees of a declared function: the number of its declaration and how many parameters it has.
-#[derive(Clone, Copy, Debug, PartialEq, Eq)]
+#[derive(Clone, Copy, PartialEq, Eq)]
 pub struct Called {
     pub number: u32,
     pub params: usize,
 }
 
 /// The functions and global variables of a text, each name at its first declaration.
-#[derive(Debug, Drop)]
+#[derive(Drop)]
 pub struct Names<'t> {
     pub functions: IndexMap<Word<'t>, Called>,
     pub variables: IndexMap<Word<'t>, u32>,

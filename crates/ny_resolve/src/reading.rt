@@ -25,21 +25,21 @@ use sqlite_items::{Boxed, Items};
 use std::alloc::{AllocError, Global};
 
 /// What was read, and the first of the faults so far.
-#[derive(Debug, Drop)]
+#[derive(Drop)]
 pub struct Read {
     pub part: Part,
     pub first: Option<Fault>,
 }
 
 /// Parts that were read, and the first of the faults so far.
-#[derive(Debug, Drop)]
+#[derive(Drop)]
 struct ReadMany {
     parts: Items<Part>,
     first: Option<Fault>,
 }
 
 /// Binds that were read, and the first of the faults so far.
-#[derive(Debug, Drop)]
+#[derive(Drop)]
 struct ReadBlock {
     binds: Items<Bound>,
     first: Option<Fault>,

@@ -4,7 +4,7 @@ use ny_scope::Key;
 use sqlite_items::{Boxed, Items};
 
 /// A local name, by the byte where it is bound: each parameter, bind and counter has its own.
-#[derive(Clone, Copy, Debug, PartialEq, Eq, Hash)]
+#[derive(Clone, Copy, PartialEq, Eq, Hash)]
 pub struct NameId(pub u32);
 
 impl Key for NameId {
@@ -15,7 +15,7 @@ impl Key for NameId {
 
 /// An expression that was read, at its place in the text.
 #[cycle(term)]
-#[derive(Debug, Drop)]
+#[derive(Drop)]
 pub struct Part {
     pub at: u32,
     pub term: Term,
@@ -23,7 +23,7 @@ pub struct Part {
 
 /// What an expression is, each name told by what it stands for. Declarations are told by their numbers, from 0.
 #[cycle(term)]
-#[derive(Debug, Drop)]
+#[derive(Drop)]
 pub enum Term {
     Number(Fix),
     /// A parameter, a bind or a counter.
@@ -47,14 +47,14 @@ pub enum Term {
 
 /// A name that a block gives to a value.
 #[cycle(term)]
-#[derive(Debug, Drop)]
+#[derive(Drop)]
 pub struct Bound {
     pub name: NameId,
     pub value: Part,
 }
 
 /// A declaration that was read. A variable has no parameters, and its body is its value.
-#[derive(Debug, Drop)]
+#[derive(Drop)]
 pub struct Declared {
     pub params: Items<NameId>,
     pub body: Part,

@@ -9,7 +9,7 @@ use std::hash::{Hash, Hasher};
 use std::marker::Model;
 
 /// A name of the text, by its bytes.
-#[derive(Debug, Drop)]
+#[derive(Drop)]
 pub struct Word<'t> {
     bytes: &'t [u8],
 }
