@@ -66,7 +66,7 @@ const GREATEST_WEIGHT: u64 = 1_000_000;
 const GREATEST_JUDGED: u64 = 4_000_000;
 
 /// A text's first fault, and how many channels it plays.
-#[derive(Clone, Copy, Debug, PartialEq, Eq)]
+#[derive(Clone, Copy, PartialEq, Eq)]
 struct Verdict {
     fault: Option<Fault>,
     channels: u32,

@@ -10,7 +10,7 @@ use std::alloc::{AllocError, Global};
 use std::marker::Model;
 
 /// A program that is being written: each node names only nodes before it, and each body stands.
-#[derive(Debug, Drop)]
+#[derive(Drop)]
 pub(crate) struct Draft {
     nodes: Vec<Node>,
     free: Vec<Items<NameId>>,

@@ -6,7 +6,7 @@ use ny_kernels::Op;
 use ny_resolve::{Operator, Order, Relation};
 
 /// The family of an operator, with the operator in it.
-#[derive(Clone, Copy, Debug, PartialEq, Eq)]
+#[derive(Clone, Copy, PartialEq, Eq)]
 pub(crate) enum Family {
     Pair(Op),
     Neg,

@@ -5,15 +5,15 @@ use ny_warp::Map;
 use sqlite_items::Items;
 
 /// An expression, by its place in a program's table.
-#[derive(Clone, Copy, Debug, PartialEq, Eq)]
+#[derive(Clone, Copy, PartialEq, Eq)]
 pub struct ExprId(pub u32);
 
 /// A function, by the number of its declaration among all declarations of the text.
-#[derive(Clone, Copy, Debug, PartialEq, Eq)]
+#[derive(Clone, Copy, PartialEq, Eq)]
 pub struct FunctionId(pub u32);
 
 /// What makes a sound of numbers alone.
-#[derive(Clone, Copy, Debug, PartialEq, Eq)]
+#[derive(Clone, Copy, PartialEq, Eq)]
 pub enum Generator {
     Const,
     Osc,
@@ -26,7 +26,7 @@ pub enum Generator {
 }
 
 /// What makes a sound of one sound, at its own rate, and of numbers.
-#[derive(Clone, Copy, Debug, PartialEq, Eq)]
+#[derive(Clone, Copy, PartialEq, Eq)]
 pub enum Effect {
     Abs,
     OnePole,
@@ -35,7 +35,7 @@ pub enum Effect {
 }
 
 /// What changes an environment by a number.
-#[derive(Clone, Copy, Debug, PartialEq, Eq)]
+#[derive(Clone, Copy, PartialEq, Eq)]
 pub enum Transformation {
     At,
     Stretch,
@@ -45,7 +45,7 @@ pub enum Transformation {
 }
 
 /// How the environment of an expression is changed.
-#[derive(Debug, Drop)]
+#[derive(Drop)]
 pub enum Change {
     By(Transformation, ExprId),
     Warp(Map),
@@ -56,7 +56,7 @@ pub enum Change {
 /// operators of a family share stands in the variant, and the operator is data. The operands stand in the
 /// order of the arguments (`docs/LANGUAGE.md`, "Kinds"), a change before what it changes; literal counts,
 /// divisors, rates and maps are read.
-#[derive(Debug, Drop)]
+#[derive(Drop)]
 pub enum Node {
     Number(Fix),
     /// A parameter, a bind or a counter.
@@ -91,7 +91,7 @@ pub enum Node {
 
 /// A declaration: its parameters and its body. A global variable has no parameters, and its body is its
 /// value.
-#[derive(Debug, Drop)]
+#[derive(Drop)]
 pub struct Function {
     pub params: Items<NameId>,
     pub body: ExprId,

@@ -11,7 +11,7 @@ use std::marker::Model;
 
 /// An accepted text: a table of nodes, each of which names only nodes before it
 /// (`docs/DEFINITIONS.md`, "Programs").
-#[derive(Debug, Drop)]
+#[derive(Drop)]
 pub struct Program {
     nodes: Vec<Node>,
     functions: Vec<Function>,
