@@ -297,7 +297,7 @@ fn called(
 }
 
 /// The kinds of parts, and the least place of a refusal in them.
-#[derive(Debug, Drop)]
+#[derive(Drop)]
 struct Parts {
     kinds: Vec<Option<Kind>>,
     fault: Option<u32>,

@@ -2,7 +2,7 @@ use sqlite_items::Items;
 use std::alloc::{AllocError, AllocFailed};
 
 /// What an expression gives (`docs/LANGUAGE.md`, "Kinds").
-#[derive(Clone, Copy, Debug, PartialEq, Eq)]
+#[derive(Clone, Copy, PartialEq, Eq)]
 pub enum Kind {
     Number,
     Sound,
@@ -12,7 +12,7 @@ pub enum Kind {
 }
 
 /// What an operator says of its operands' kinds.
-#[derive(Clone, Copy, Debug, PartialEq, Eq)]
+#[derive(Clone, Copy, PartialEq, Eq)]
 pub enum Judgement {
     /// The expression is of this kind.
     Is(Kind),
@@ -23,14 +23,14 @@ pub enum Judgement {
 }
 
 /// The kind of an expression, if it has one, and the least place of a refusal in it.
-#[derive(Clone, Copy, Debug, PartialEq, Eq)]
+#[derive(Clone, Copy, PartialEq, Eq)]
 pub struct Found {
     pub kind: Option<Kind>,
     pub fault: Option<u32>,
 }
 
 /// What a call says, of the kinds of its arguments.
-#[derive(Clone, Copy, Debug, PartialEq, Eq)]
+#[derive(Clone, Copy, PartialEq, Eq)]
 pub struct Reached {
     pub row: Judgement,
     /// The least place of a refusal in the body that it reaches.
@@ -38,14 +38,14 @@ pub struct Reached {
 }
 
 /// A function, by the number of its declaration, with the kinds of its arguments.
-#[derive(Debug, Drop)]
+#[derive(Drop)]
 pub struct Use {
     pub number: u32,
     pub kinds: Items<Kind>,
 }
 
 /// What the body of a function is for these kinds.
-#[derive(Debug, Drop)]
+#[derive(Drop)]
 pub struct Entry {
     pub number: u32,
     pub kinds: Items<Kind>,
@@ -55,7 +55,7 @@ pub struct Entry {
 }
 
 /// Why an expression is not judged yet.
-#[derive(Debug, Drop)]
+#[derive(Drop)]
 pub enum Stop {
     /// This function is to be judged first, for these kinds; and then those whose bodies called for it, from the innermost on.
     Missing(Use, Items<Use>),

@@ -22,7 +22,7 @@ fn same_kinds(a: &[Kind], b: &[Kind]) -> bool
 }
 
 /// What is known of functions, for kinds of their arguments.
-#[derive(Debug, Drop)]
+#[derive(Drop)]
 pub struct Table {
     pub entries: Vec<Entry>,
     /// For each list of entries, where its newest one stands, counted from 1; or 0.
@@ -32,7 +32,7 @@ pub struct Table {
 }
 
 /// How far judging goes.
-#[derive(Clone, Copy, Debug, PartialEq, Eq)]
+#[derive(Clone, Copy, PartialEq, Eq)]
 pub struct Limits {
     /// So many levels may still be nested before a function that is missing is put off.
     pub levels: u32,
