@@ -13,3 +13,5 @@ pub mod Agreeing
 pub mod FreeNames
 pub mod Picked
 pub mod Tall
+pub mod Accepted
+pub mod OperatorNodes

@@ -12,3 +12,5 @@ pub mod Channels
 pub mod Occurrence
 pub mod FreeNames
 pub mod Heights
+pub mod Texts
+pub mod KeptNames

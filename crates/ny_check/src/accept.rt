@@ -7,6 +7,8 @@ ghost use Rattle.ny_resolve.specs.Faults.{earliest_after};
 ghost use Rattle.ny_resolve.specs.Declarations.{tree_read};
 ghost use Rattle.ny_resolve.specs.Sizes.{text_size};
 ghost use Rattle.ny_check.specs.Acceptance.{greatest_weight, kind_faults, judged_faults, fault_of, program_in, program_with, IsRefusal, IsRefusalOr};
+ghost use Rattle.ny_check.specs.Code.{Code};
+ghost use Rattle.ny_check.specs.Texts.{IsAccepted};
 
 use crate::program::Program;
 use crate::write::program;
@@ -98,6 +100,7 @@ fn judge(alloc: Global, read: &ReadTree, play_at: u32) -> Result<Verdict, Unjudg
 fn answer(alloc: Global, read: &ReadTree, verdict: Verdict, end: u32) -> Result<Program, CheckFault>
     requires channels { (1 ≤ verdict.channels) × (verdict.channels ≤ 8) }
     requires few { text_size read.now.declared read.now.play < 2 ^ 32 }
+    requires accepted { verdict.fault ≡ None → (code : Code) → program_with read.now.declared read.now.play verdict.channels ≡ Some code → IsAccepted code }
     ensures accepted { IfOk result (λ p. verdict.fault ≡ None) }
     ensures program { IfOk result (λ p. program_with read.now.declared read.now.play verdict.channels ≡ Some p) }
     ensures refused { IfErr result (IsRefusalOr end read.now.play verdict.fault) }

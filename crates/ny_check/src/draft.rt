@@ -1,5 +1,6 @@
 ghost use Rattle.std.specs.Prelude.{◌≡◌, ◌+◌, ◌<◌, ◌≤◌, ◌^◌, ◌++◌, ◌∷◌, [], length, IfOk, OnOk, IfSome, get_or};
 ghost use Rattle.ny_check.specs.Code.{IsBelow, no_function};
+ghost use Rattle.ny_check.specs.Texts.{IsAccepted};
 ghost use Rattle.ny_check.specs.Writing.{Draft_of, put, body_of, empty};
 
 use crate::node::{ExprId, Function, Node};
@@ -84,6 +85,7 @@ impl Draft {
     pub(crate) fn finish(self, alloc: Global, play: ExprId, channels: u32) -> Program
         requires play { play.0 < length self.table.nodes }
         requires channels { (1 ≤ channels) × (channels ≤ 8) }
+        requires accepted { IsAccepted (record { nodes = self.table.nodes; functions = self.functions; play = play; channels = channels; free = self.table.free }) }
         ensures { result ≡ record { nodes = self.table.nodes; functions = self.functions; play = play; channels = channels; free = self.table.free } }
     {
         let Draft {

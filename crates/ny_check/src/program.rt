@@ -1,5 +1,6 @@
 ghost use Rattle.std.specs.Prelude.{◌≡◌, ◌<◌, ◌≤◌, length, get_or, [], Contains, IfSome, OnOk};
 ghost use Rattle.ny_check.specs.Code.{Code, node_at, function_at, IsBelow, IsOrdered};
+ghost use Rattle.ny_check.specs.Texts.{IsAccepted};
 ghost use Rattle.ny_check.specs.Values.{scalar_of};
 
 use crate::node::{ExprId, Function, FunctionId, Node};
@@ -26,12 +27,13 @@ impl Model for Program {
     ghost use Rattle.std.specs.Prelude.{All};
     ghost use Rattle.ny_check.specs.Code.{Code, IsOrdered};
     ghost use Rattle.ny_check.specs.Globals.{IsKept};
+    ghost use Rattle.ny_check.specs.Texts.{IsAccepted};
 
     ghost Value = { Code };
 
     ghost view = { λ p. record { nodes = p.nodes.items; functions = p.functions.items; play = p.play; channels = p.channels; free = p.free.items } };
 
-    ghost invariant = { λ p. IsOrdered (record { nodes = p.nodes.items; functions = p.functions.items; play = p.play; channels = p.channels; free = p.free.items }) × All (IsKept (record { nodes = p.nodes.items; functions = p.functions.items; play = p.play; channels = p.channels; free = p.free.items })) p.globals.items };
+    ghost invariant = { λ p. IsOrdered (record { nodes = p.nodes.items; functions = p.functions.items; play = p.play; channels = p.channels; free = p.free.items }) × IsAccepted (record { nodes = p.nodes.items; functions = p.functions.items; play = p.play; channels = p.channels; free = p.free.items }) × All (IsKept (record { nodes = p.nodes.items; functions = p.functions.items; play = p.play; channels = p.channels; free = p.free.items })) p.globals.items };
 }
 
 /// The value of the global variable at a place of the table, by binary search; none where it is not kept.
@@ -58,7 +60,8 @@ impl Program {
         channels: u32,
         free: Vec<Items<NameId>>,
     ) -> Program
-        requires { IsOrdered (record { nodes = nodes.items; functions = functions.items; play = play; channels = channels; free = free.items }) }
+        requires ordered { IsOrdered (record { nodes = nodes.items; functions = functions.items; play = play; channels = channels; free = free.items }) }
+        requires accepted { IsAccepted (record { nodes = nodes.items; functions = functions.items; play = play; channels = channels; free = free.items }) }
         ensures { result ≡ record { nodes = nodes.items; functions = functions.items; play = play; channels = channels; free = free.items } }
     {
         Program {
@@ -74,6 +77,13 @@ impl Program {
     /// The law of a table's order (`docs/DEFINITIONS.md`, "Programs").
     pub fn order_law(&self)
         ensures ordered { IsOrdered self.now }
+    {
+        let _ = &self.nodes;
+    }
+
+    /// The law of texts: each program is that of an accepted text (`docs/DEFINITIONS.md`, "Programs").
+    pub fn text_law(&self)
+        ensures accepted { IsAccepted self.now }
     {
         let _ = &self.nodes;
     }

@@ -3,6 +3,7 @@ ghost use Rattle.ny_check.specs.declared.node.ExprId.{ExprId as IdOf};
 ghost use Rattle.ny_syntax.specs.Sizes.{total};
 ghost use Rattle.ny_resolve.specs.Sizes.{size_of_part, size_of_bound, declared_size, text_size};
 ghost use Rattle.ny_check.specs.Code.{BindsBelow, IsBelow};
+ghost use Rattle.ny_check.specs.Texts.{IsAccepted};
 ghost use Rattle.ny_check.specs.Writing.{Written, WrittenParts, WrittenBinds, writing, writing_of_bind, write_parts, write_binds, global_node, call_node, body_of, is_seq, is_in_turn, kept_names, write_declared, empty, program_of};
 
 use crate::draft::Draft;
@@ -208,6 +209,7 @@ pub(crate) fn program(
 ) -> Result<Program, AllocError>
     requires channels { (1 ≤ channels) × (channels ≤ 8) }
     requires few { text_size ds.now (Some play.now) < 2 ^ 32 }
+    requires accepted { IsAccepted (program_of ds.now play.now channels) }
     ensures { IfOk result (λ p. p ≡ program_of ds.now play.now channels) }
 {
     let mut draft = Draft::new(alloc);

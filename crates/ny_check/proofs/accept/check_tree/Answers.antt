@@ -1,4 +1,5 @@
 use Rattle.ny_check.proofs.Silent.{told, accepted_result, refused_result}
+use Rattle.ny_check.proofs.Accepted.{accepted_text}
 use Rattle.ny_check.proofs.accept.check_tree.Goals as goal
 
 pub returns-clause-accepted : goal.returns-clause-accepted
@@ -14,3 +15,8 @@ returns-clause-refused c =
     (told c.args.tree.now c.in_ok-read.read.declared c.in_ok-read.read.play c.in_ok-read.read.first c.in_ok-verdict.verdict.fault
     c.in_ok-read.ensures.declared c.in_ok-read.ensures.play c.in_ok-read.ensures.first c.in_ok-verdict.ensures.fault)
     c.answer.ensures.refused
+
+pub answer-requires-clause-accepted : goal.answer-requires-clause-accepted
+answer-requires-clause-accepted c =
+    accepted_text c.args.tree.now c.in_ok-read.read.declared c.in_ok-read.read.play c.in_ok-read.read.first c.in_ok-verdict.verdict.fault c.in_ok-verdict.verdict.channels
+    c.in_ok-read.ensures.declared c.in_ok-read.ensures.play c.in_ok-read.ensures.first c.in_ok-verdict.ensures.fault c.in_ok-verdict.ensures.channels

@@ -1,0 +1,10 @@
+//! Laws of accepted programs: what acceptance hands on to evaluation.
+//!
+//! The definitions are told in `docs/DEFINITIONS.md`.
+#![tactic(auto)]
+
+mod kept;
+mod table;
+
+pub use kept::kept_name_laws;
+pub use table::table_law;
