@@ -5,3 +5,5 @@ pub mod Uses
 pub mod Names
 pub mod KeptNames
 pub mod OfText
+pub mod ScalarKinds
+pub mod PlayedKinds

@@ -4,7 +4,9 @@
 #![tactic(auto)]
 
 mod kept;
+mod kinds;
 mod table;
 
 pub use kept::kept_name_laws;
+pub use kinds::kinds_law;
 pub use table::table_law;
