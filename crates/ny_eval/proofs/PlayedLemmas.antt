@@ -30,7 +30,7 @@ use Rattle.ny_hands.proofs.HeapLemmas.{Length, Empty, Long, length_of}
 use Rattle.ny_hands.proofs.MarkLemmas.{spent_like}
 use Rattle.ny_hands.proofs.ComingLemmas.{comes_as}
 use Rattle.ny_trace.specs.Evaluates.{Trace, NodeTurn, JoinTurn, ValueTurn, Evaluates}
-use Rattle.ny_trace.specs.Laws.{IsLawful}
+use Rattle.ny_trace.specs.Laws.{KeepFree, in_turn, IsLawful}
 use Rattle.ny_trace.specs.Heights.{tall_node, IsRising}
 use Rattle.ny_trace.proofs.EvaluationLemmas.{node_gives}
 use Rattle.ny_trace.proofs.HeightLemmas.{from_trimmed, stands_wider}
@@ -97,6 +97,12 @@ module _ (code : Code) (n e : ℕ) (env : Env) (names : Names) (old new : HeapSt
 
 -- ---- the sound of the meaning
 
+-- no part waits, so no names are kept
+played_free : (code : Code) (at : NodeOf) (known : ℕ → Bool) → built_node at known ≡ true → KeepFree code (in_turn at)
+played_free code (node.Mix o es) known is = not_built is
+played_free code (node.Repeat o i k a) known is = not_built is
+played_free code _ known is = tt
+
 pub played_lawful : (code : Code) → IsOrdered code → (n : ℕ) → IsLawful code (Played code n)
 played_lawful code ordered zero e env names old new s t inside laws named = absurd t.1
 played_lawful code ordered (suc n) e env names old new s (builds, inl t) inside laws named = played_lawful code ordered n e env names old new s (builds, t) inside laws named
@@ -104,7 +110,7 @@ played_lawful code ordered (suc n) e env names old new s (builds, inr t) inside 
     let under = ordered.each e inside in
     let mean : (bound : Bound) → meaning code e env bound ≡ sound_node code (node_in code e) (meaning code) env bound = λ bound. meaning-is code e env bound under in
     comes_as (part_is code) old new s (λ w. sound_node code (node_in code e) (meaning code) env (bound_in w names)) (λ w. meaning code e env (bound_in w names)) [] (λ w. sym (mean (bound_in w names)))
-    (node_gives code (Played code n) (played_lawful code ordered n) e inside env names old new s laws named (node_in code e) refl under (λ es is. not_built (built_at code e _ is builds)) mean
+    (node_gives code (Played code n) (played_lawful code ordered n) e inside env names old new s laws named (node_in code e) refl under (played_free code (node_in code e) (below e false (built code)) (built_at code e (node_in code e) refl builds)) mean
     (played_node code n e env names old new s (node_in code e) (built_at code e (node_in code e) refl builds) t))
 
 -- ---- heights

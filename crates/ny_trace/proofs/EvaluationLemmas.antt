@@ -9,7 +9,7 @@ use Rattle.ny_check.specs.declared.node.ExprId.{ExprId}
 use Rattle.ny_check.specs.Code.{Code, node_at, function_at, IsBelow, AllBelow, BindsBelow, IsOrdered}
 use Rattle.ny_check.specs.Values.{scalars_of, number_of, test_of}
 use Rattle.ny_check.specs.Families.{leaf_sound, effect_sound, changed_env}
-use Rattle.ny_check.specs.Meaning.{Bound, meaning, sound_node}
+use Rattle.ny_check.specs.Meaning.{Bound, meaning, part_of, repeated_parts, sound_node}
 use Rattle.ny_check.proofs.MeaningEquation.{meaning-is}
 use Rattle.ny_heap.specs.declared.sound.Sound.{Sound}
 use Rattle.ny_heap.specs.Heap.{HeapState}
@@ -17,14 +17,16 @@ use Rattle.ny_heap.specs.Reach.{HeapLaws}
 use Rattle.ny_heap.specs.Means.{Whole}
 use Rattle.ny_hands.specs.Frames.{Names, bound_in, part_is}
 use Rattle.ny_hands.specs.declared.branch.Branch.{Branch}
-use Rattle.ny_trace.specs.Evaluates.{Trace, NodeTurn, Evaluates, numbers_in}
+use Rattle.ny_trace.specs.Evaluates.{Trace, parts_of, counted_parts, NodeTurn, Evaluates, numbers_in}
 use Rattle.ny_hands.specs.Hands.{item, Comes, AreNamed}
-use Rattle.ny_trace.specs.Laws.{KeepFree, KeepsFree, IsLawful}
+use Rattle.ny_trace.specs.Laws.{KeepFree, in_turn, KeepsFree, IsLawful}
 use Rattle.ny_hands.proofs.ComingLemmas.{comes_as, comes_silent}
 use Rattle.ny_hands.proofs.NameLemmas.{scalars_bound}
 use Rattle.ny_trace.proofs.ValueLemmas.{leaf_comes, name_comes, operation_comes, sign_comes, effect_comes}
 use Rattle.ny_trace.proofs.BlockLemmas.{block_comes, call_comes}
-use Rattle.ny_trace.proofs.MixLemmas.{sim_comes}
+use Rattle.ny_trace.proofs.CueLemmas.{cue_comes}
+use Rattle.ny_trace.proofs.MixLemmas.{parts_are, counted_are, parts_in_are, counted_in_are, sim_comes}
+use Rattle.ny_trace.proofs.WaitLemmas.{parts_free, counted_free}
 use Rattle.ny_trace.proofs.SeqLemmas.{seq_comes}
 
 -- what is no deeper than m is no deeper than more
@@ -48,7 +50,7 @@ module _ (code : Code) (D : Trace) (law : IsLawful code D) (e : ℕ) (inside : e
   Gives at = Comes (part_is code) old new (item s (λ w. sound_node code at (meaning code) env (bound_in w names)) ∷ [])
 
   -- of a sequence, what each part keeps must be enough
-  pub node_gives : (at : Node) → node_at code e ≡ at → IsBelow code.functions e at → ((es : List ExprId) → at ≡ node.Mix order.InTurn es → KeepFree code es) → ((bound : Bound) → meaning code e env bound ≡ sound_node code at (meaning code) env bound) → NodeTurn D code e at env names old new s → Gives at
+  pub node_gives : (at : Node) → node_at code e ≡ at → IsBelow code.functions e at → KeepFree code (in_turn at) → ((bound : Bound) → meaning code e env bound ≡ sound_node code at (meaning code) env bound) → NodeTurn D code e at env names old new s → Gives at
   node_gives (node.Number v) is below free mean step = comes_silent (part_is code) old new env.sound_rate s laws step
   node_gives (node.Local x) is below free mean step = name_comes (part_is code) old new env.sound_rate x names s laws named step
   node_gives (node.Global a) is below free mean step = comes_silent (part_is code) old new env.sound_rate s laws step
@@ -83,10 +85,19 @@ module _ (code : Code) (D : Trace) (law : IsLawful code D) (e : ℕ) (inside : e
       comes_as (part_is code) old new s (λ w. effect_sound fx (numbers_in code names es) (meaning code a.0 env (bound_in w names))) (λ w. sound_node code (node.Effect fx a es) (meaning code) env (bound_in w names)) []
       (λ w. ap (λ q. effect_sound fx (map (λ a. number_of code a q) es) (meaning code a.0 env (bound_in w names))) (sym (scalars_bound w names)))
       (effect_comes code D law fx a (numbers_in code names es) env names old new s (omega (arith, below.0, inside)) laws named step)
-  node_gives (node.Cue a) is below free mean step = absurd step
-  node_gives (node.Mix order.Together es) is below free mean step = sim_comes code D law es env names old new s (below_all e (length code.nodes) es (omega (arith, inside)) below) laws named step
-  node_gives (node.Mix order.InTurn es) is below free mean step = seq_comes code D law e es env names old new s (below_all e (length code.nodes) es (omega (arith, inside)) below) (free es refl) mean laws named step
-  node_gives (node.Repeat o x k a) is below free mean step = absurd step
+  node_gives (node.Cue a) is below free mean step = cue_comes code D law a env names old new s (omega (arith, below, inside)) laws named step
+  node_gives (node.Mix order.Together es) is below free mean step =
+      sim_comes code D law (parts_of names es) env names old new s (λ bound. map (part_of (meaning code) bound) es) (λ w. parts_in_are code w names es)
+      (parts_are (length code.nodes) old names named es (below_all e (length code.nodes) es (omega (arith, inside)) below)) laws step
+  node_gives (node.Mix order.InTurn es) is below free mean step =
+      seq_comes code D law e (parts_of names es) env names old new s (λ bound. map (part_of (meaning code) bound) es) (λ w. parts_in_are code w names es)
+      (parts_are (length code.nodes) old names named es (below_all e (length code.nodes) es (omega (arith, inside)) below)) (parts_free code names es free) mean laws named step
+  node_gives (node.Repeat order.Together i k a) is below free mean step =
+      sim_comes code D law (counted_parts names i k a) env names old new s (λ bound. repeated_parts (meaning code) bound i k a) (λ w. counted_in_are code w names i k a)
+      (counted_are (length code.nodes) old names i k a named (omega (arith, below, inside))) laws step
+  node_gives (node.Repeat order.InTurn i k a) is below free mean step =
+      seq_comes code D law e (counted_parts names i k a) env names old new s (λ bound. repeated_parts (meaning code) bound i k a) (λ w. counted_in_are code w names i k a)
+      (counted_are (length code.nodes) old names i k a named (omega (arith, below, inside))) (counted_free code names i k a free) mean laws named step
   node_gives (node.Change c a) is below free mean step =
       comes_as (part_is code) old new s (λ w. meaning code a.0 (changed_env c (λ k. number_of code k (scalars_of names)) env) (bound_in w names)) (λ w. sound_node code (node.Change c a) (meaning code) env (bound_in w names)) []
       (λ w. ap (λ q. meaning code a.0 (changed_env c (λ k. number_of code k q) env) (bound_in w names)) (sym (scalars_bound w names)))

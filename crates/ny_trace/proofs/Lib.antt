@@ -1,6 +1,7 @@
 pub mod FamilyLemmas
 pub mod ValueLemmas
 pub mod BlockLemmas
+pub mod CueLemmas
 pub mod MixLemmas
 pub mod WaitLemmas
 pub mod SeqLemmas
@@ -8,6 +9,7 @@ pub mod EvaluationLemmas
 pub mod HeightLemmas
 pub mod RisingLemmas
 pub mod RisingSeqLemmas
+pub mod RisingCueLemmas
 pub mod RisingEvaluationLemmas
 pub mod SettlingLemmas
 pub mod StepLemmas

@@ -1,6 +1,6 @@
 -- What a mix gives, and parts together.
-use Rattle.std.proofs.Common.{◌≡◌, ℕ, List, [], ◌∷◌, ◌++◌, length, map, Option, Some, refl, sym, ap, subst, ◌∙◌, ℤ, pos}
-use Rattle.std.specs.List.{fold}
+use Rattle.std.proofs.Common.{◌≡◌, ℕ, ◌*◌, ◌<◌, List, [], ◌∷◌, ◌++◌, length, map, Option, Some, refl, sym, ap, subst, ◌∙◌, ℤ, pos}
+use Rattle.std.specs.List.{fold, range_with_len}
 use Rattle.std.proofs.lemmas.List.{append_assoc, append-nil}
 use Rattle.std.proofs.lemmas.List.Sums.{fold-append}
 use Rattle.ny_num.specs.Numbers.{sample_add}
@@ -11,24 +11,27 @@ use Rattle.ny_num.specs.Sound.{timing_of, sound_of, value_at, spanning}
 use Rattle.ny_num.specs.Mix.{mix, mix_timing, sum_at}
 use Rattle.ny_num.specs.Resampling.{resampled}
 use Rattle.ny_warp.specs.declared.env.Env.{Env}
+use Rattle.ny_resolve.specs.declared.term.NameId.{NameId}
 use Rattle.ny_check.specs.declared.node.ExprId.{ExprId}
+use Rattle.ny_check.specs.declared.value.Value.TheVariants.{Number}
 use Rattle.ny_check.specs.Code.{Code, AllBelow}
 use Rattle.ny_check.specs.Parts.{parts_together}
-use Rattle.ny_check.specs.Meaning.{meaning, part_of}
+use Rattle.ny_check.specs.Meaning.{Bound, meaning, part_of, repeated_part, repeated_parts}
 use Rattle.ny_heap.specs.declared.sound.Sound.{Sound}
 use Rattle.ny_heap.specs.Heap.{Mix, Waiting, HeapState}
-use Rattle.ny_heap.specs.Means.{Parts, Whole, Means, input_sound, sum_heard, unit_value, parts_from}
+use Rattle.ny_heap.specs.Means.{Parts, Whole, Means, Extends, input_sound, sum_heard, unit_value, parts_from}
 use Rattle.ny_heap.specs.Reach.{HeapLaws}
 use Rattle.ny_heap.specs.Steps.{first_memory, made_inputs, reader_of, last_stop_of}
 use Rattle.ny_hands.proofs.SoundLemmas.{heard_is}
 use Rattle.ny_hands.specs.Calls.{BringsEach}
 use Rattle.ny_hands.specs.Frames.{Names, sound_at, bound_in, part_is}
 use Rattle.ny_hands.specs.declared.branch.Branch.{Branch}
-use Rattle.ny_trace.specs.Evaluates.{Trace, PartsTurn, SimTurn}
+use Rattle.ny_trace.specs.Evaluates.{Trace, Part, parts_of, counted_names, counted_parts, PartsTurn, SimTurn}
 use Rattle.ny_hands.specs.Hands.{AllBegin, Item, item, sounds_in, Are, Comes, AreNamed}
 use Rattle.ny_trace.specs.Laws.{IsLawful}
 use Rattle.ny_hands.proofs.ComingLemmas.{comes_none, comes_turned, comes_made, comes_brought, timing_begin}
-use Rattle.ny_hands.proofs.NameLemmas.{bound_stable, named_kept}
+use Rattle.ny_hands.proofs.HandLemmas.{AreKept}
+use Rattle.ny_hands.proofs.NameLemmas.{bound_append, bound_stable, named_kept, named_append}
 use Rattle.ny_trace.proofs.ValueLemmas.{Agree, comes_then}
 
 mix_timing-rate : (r : Rate) (ts : List Timing) → (mix_timing r ts).rate ≡ r
@@ -121,54 +124,102 @@ brought_ises old new w r [] (t ∷ ts) step = absurd step
 brought_ises old new w r (i ∷ items) [] step = absurd step
 brought_ises old new w r (i ∷ items) (t ∷ ts) step = ap (λ rest. resampled r (i.is w) ∷ rest) (brought_ises step.0 new w r items ts step.2)
 
+-- ---- parts
+
+-- each part stands in the table, and the sounds of its names are there
+abbrev pub AreParts : ℕ → HeapState Branch → List Part → Type 0
+AreParts n h [] = Unit {0}
+AreParts n h (p ∷ ps) = (p.0.0 < n) × AreNamed h p.1 × AreParts n h ps
+
+pub parts_kept : (n : ℕ) (old new : HeapState Branch) → AreKept old new → (ps : List Part) → AreParts n old ps → AreParts n new ps
+parts_kept n old new kept [] are = tt
+parts_kept n old new kept (p ∷ ps) are = (are.0, named_kept old new kept p.1 are.1, parts_kept n old new kept ps are.2)
+
+pub parts_first : (n : ℕ) (h : HeapState Branch) (ps qs : List Part) → AreParts n h (ps ++ qs) → AreParts n h ps
+parts_first n h [] qs are = tt
+parts_first n h (p ∷ ps) qs are = (are.0, are.1, parts_first n h ps qs are.2)
+
+pub parts_last : (n : ℕ) (h : HeapState Branch) (ps qs : List Part) → AreParts n h (ps ++ qs) → AreParts n h qs
+parts_last n h [] qs are = are
+parts_last n h (p ∷ ps) qs are = parts_last n h ps qs are.2
+
+-- the parts of `sim` and `seq`, and those that are counted
+pub parts_are : (n : ℕ) (h : HeapState Branch) (names : Names) → AreNamed h names → (es : List ExprId) → AllBelow n es → AreParts n h (parts_of names es)
+parts_are n h names named [] below = tt
+parts_are n h names named (e ∷ es) below = (below.0, named, parts_are n h names named es below.1)
+
+pub counted_are : (n : ℕ) (h : HeapState Branch) (names : Names) (i : NameId) (count : ℕ) (e : ExprId) → AreNamed h names → e.0 < n → AreParts n h (counted_parts names i count e)
+counted_are n h names i count e named inside = each (range_with_len 0 count)
+  where
+    each : (ks : List ℕ) → AreParts n h (map (λ k. let p : Part = (e, counted_names names i k) in p) ks)
+    each [] = tt
+    each (k ∷ ks) = (inside, named_append h names ((i, Number (pos (k * 1000000))) ∷ []) named (tt, tt), each ks)
+
+-- what a part is, from an environment
+abbrev pub part_in : Code → Whole → Part → Env → sounds.Sound
+part_in code w p from = meaning code p.0.0 from (bound_in w p.1)
+
+pub parts_in_are : (code : Code) (w : Whole) (names : Names) (es : List ExprId) → map (part_in code w) (parts_of names es) ≡ map (part_of (meaning code) (bound_in w names)) es
+parts_in_are code w names [] = refl
+parts_in_are code w names (e ∷ es) = ap (λ (rest : List (Env → sounds.Sound)). part_of (meaning code) (bound_in w names) e ∷ rest) (parts_in_are code w names es)
+
+pub counted_in_are : (code : Code) (w : Whole) (names : Names) (i : NameId) (count : ℕ) (e : ExprId) → map (part_in code w) (counted_parts names i count e) ≡ repeated_parts (meaning code) (bound_in w names) i count e
+counted_in_are code w names i count e = each (range_with_len 0 count)
+  where
+    each : (ks : List ℕ) → map (part_in code w) (map (λ k. let p : Part = (e, counted_names names i k) in p) ks) ≡ map (repeated_part (meaning code) (bound_in w names) i e) ks
+    each [] = refl
+    each (k ∷ ks) = λ j. (λ from. meaning code e.0 from (bound_append w names ((i, Number (pos (k * 1000000))) ∷ []) j)) ∷ each ks j
+
 -- ---- parts together
 
 module _ (code : Code) (D : Trace) (law : IsLawful code D) where
-  abbrev pub part_items : Env → Names → List ExprId → List Sound → List Item
-  part_items env names [] ss = []
-  part_items env names (e ∷ es) [] = []
-  part_items env names (e ∷ es) (s ∷ ss) = item s (λ w. meaning code e.0 env (bound_in w names)) ∷ part_items env names es ss
+  abbrev pub part_items : Env → List Part → List Sound → List Item
+  part_items env [] ss = []
+  part_items env (p ∷ ps) [] = []
+  part_items env (p ∷ ps) (s ∷ ss) = item s (λ w. part_in code w p env) ∷ part_items env ps ss
 
-  parts_agree : (env : Env) (names : Names) (w l : Whole) → bound_in l names ≡ bound_in w names → (es : List ExprId) (ss : List Sound) → Agree w l (part_items env names es ss) (part_items env names es ss)
-  parts_agree env names w l same [] ss = tt
-  parts_agree env names w l same (e ∷ es) [] = tt
-  parts_agree env names w l same (e ∷ es) (s ∷ ss) = (refl, ap (meaning code e.0 env) same, parts_agree env names w l same es ss)
+  parts_agree : (n : ℕ) (old : HeapState Branch) (env : Env) (w l : Whole) → Extends old w l → (ps : List Part) → AreParts n old ps → (ss : List Sound) → Agree w l (part_items env ps ss) (part_items env ps ss)
+  parts_agree n old env w l extends [] are ss = tt
+  parts_agree n old env w l extends (p ∷ ps) are [] = tt
+  parts_agree n old env w l extends (p ∷ ps) are (s ∷ ss) = (refl, ap (meaning code p.0.0 env) (bound_stable old p.1 are.1 w l extends), parts_agree n old env w l extends ps are.2 ss)
 
-  pub parts_come : (env : Env) (names : Names) (es : List ExprId) (old new : HeapState Branch) (ss : List Sound) → AllBelow (length code.nodes) es → HeapLaws old → AreNamed old names → PartsTurn D env names es old new ss → Comes (part_is code) old new (part_items env names es ss)
-  parts_come env names [] old new [] inside laws named step = subst (λ (h : HeapState Branch). Comes (part_is code) old h []) step (comes_none (part_is code) old laws)
-  parts_come env names [] old new (s ∷ ss) inside laws named step = absurd step
-  parts_come env names (e ∷ es) old new [] inside laws named step = absurd step
-  parts_come env names (e ∷ es) old new (s ∷ ss) inside laws named step =
-      let first = law e.0 env names old step.0 s step.1 inside.0 laws named in
-      let rest = parts_come env names es step.0 new ss inside.1 first.hand.laws (named_kept old step.0 first.hand.kept names named) step.2 in
-      comes_then (part_is code) old step.0 new (item s (λ w. meaning code e.0 env (bound_in w names)) ∷ []) (part_items env names es ss) (part_items env names es ss) refl (λ w l means extends are. parts_agree env names w l (bound_stable old names named w l extends) es ss) first rest
+  pub parts_come : (env : Env) (ps : List Part) (old new : HeapState Branch) (ss : List Sound) → AreParts (length code.nodes) old ps → HeapLaws old → PartsTurn D env ps old new ss → Comes (part_is code) old new (part_items env ps ss)
+  parts_come env [] old new [] are laws step = subst (λ (h : HeapState Branch). Comes (part_is code) old h []) step (comes_none (part_is code) old laws)
+  parts_come env [] old new (s ∷ ss) are laws step = absurd step
+  parts_come env (p ∷ ps) old new [] are laws step = absurd step
+  parts_come env (p ∷ ps) old new (s ∷ ss) are laws step =
+      let first = law p.0.0 env p.1 old step.0 s step.1 are.0 laws are.1 in
+      let rest = parts_come env ps step.0 new ss (parts_kept (length code.nodes) old step.0 first.hand.kept ps are.2) first.hand.laws step.2 in
+      comes_then (part_is code) old step.0 new (item s (λ w. part_in code w p env) ∷ []) (part_items env ps ss) (part_items env ps ss) refl (λ w l means extends here. parts_agree (length code.nodes) old env w l extends ps are.2 ss) first rest
 
-  pub part_sounds : (env : Env) (names : Names) (es : List ExprId) (old new : HeapState Branch) (ss : List Sound) → PartsTurn D env names es old new ss → ss ≡ sounds_in (part_items env names es ss)
-  part_sounds env names [] old new [] step = refl
-  part_sounds env names [] old new (s ∷ ss) step = absurd step
-  part_sounds env names (e ∷ es) old new [] step = absurd step
-  part_sounds env names (e ∷ es) old new (s ∷ ss) step = ap (λ rest. s ∷ rest) (part_sounds env names es step.0 new ss step.2)
+  pub part_sounds : (env : Env) (ps : List Part) (old new : HeapState Branch) (ss : List Sound) → PartsTurn D env ps old new ss → ss ≡ sounds_in (part_items env ps ss)
+  part_sounds env [] old new [] step = refl
+  part_sounds env [] old new (s ∷ ss) step = absurd step
+  part_sounds env (p ∷ ps) old new [] step = absurd step
+  part_sounds env (p ∷ ps) old new (s ∷ ss) step = ap (λ rest. s ∷ rest) (part_sounds env ps step.0 new ss step.2)
 
-  part_ises : (env : Env) (names : Names) (w : Whole) (es : List ExprId) (old new : HeapState Branch) (ss : List Sound) → PartsTurn D env names es old new ss → map (resampled env.sound_rate) (ises w (part_items env names es ss)) ≡ parts_together env (map (part_of (meaning code) (bound_in w names)) es)
-  part_ises env names w [] old new [] step = refl
-  part_ises env names w [] old new (s ∷ ss) step = absurd step
-  part_ises env names w (e ∷ es) old new [] step = absurd step
-  part_ises env names w (e ∷ es) old new (s ∷ ss) step = ap (λ rest. resampled env.sound_rate (meaning code e.0 env (bound_in w names)) ∷ rest) (part_ises env names w es step.0 new ss step.2)
+  part_ises : (env : Env) (w : Whole) (ps : List Part) (old new : HeapState Branch) (ss : List Sound) → PartsTurn D env ps old new ss → map (resampled env.sound_rate) (ises w (part_items env ps ss)) ≡ parts_together env (map (part_in code w) ps)
+  part_ises env w [] old new [] step = refl
+  part_ises env w [] old new (s ∷ ss) step = absurd step
+  part_ises env w (p ∷ ps) old new [] step = absurd step
+  part_ises env w (p ∷ ps) old new (s ∷ ss) step = ap (λ rest. resampled env.sound_rate (part_in code w p env) ∷ rest) (part_ises env w ps step.0 new ss step.2)
 
-  pub sim_comes : (es : List ExprId) (env : Env) (names : Names) (old new : HeapState Branch) (s : Sound) → AllBelow (length code.nodes) es → HeapLaws old → AreNamed old names → SimTurn D es env names old new s → Comes (part_is code) old new (item s (λ w. mix env.sound_rate (parts_together env (map (part_of (meaning code) (bound_in w names)) es))) ∷ [])
-  sim_comes es env names old new s below laws named step =
+  -- `heard` tells the parts of the meaning
+  pub sim_comes : (ps : List Part) (env : Env) (names : Names) (old new : HeapState Branch) (s : Sound) (heard : Bound → List (Env → sounds.Sound)) → ((w : Whole) → map (part_in code w) ps ≡ heard (bound_in w names)) → AreParts (length code.nodes) old ps → HeapLaws old → SimTurn D ps env old new s → Comes (part_is code) old new (item s (λ w. mix env.sound_rate (parts_together env (heard (bound_in w names)))) ∷ [])
+  sim_comes ps env names old new s heard same are laws step =
       let r : Rate = env.sound_rate in
-      let parts : List Item = part_items env names es step.parts in
-      let items : List Item = brought_items r parts step.brought in
-      let sounds_are = part_sounds env names es old step.mid step.parts step.each in
-      let brings : BringsEach step.mid step.end r (sounds_in parts) step.brought = subst (λ ss. BringsEach step.mid step.end r ss step.brought) sounds_are step.brings in
-      let brought_are = brought_sounds step.mid step.end r parts step.brought brings in
-      let each = parts_come env names es old step.mid step.parts below laws named step.each in
-      let all = each_brought (part_is code) old step.mid step.end r parts [] step.brought laws (subst (λ ps. Comes (part_is code) old step.mid ps) (sym (append-nil parts)) each) brings in
-      comes_made (part_is code) old step.end new Mix (mix_timing r (map (λ s. s.timing) step.brought)) step.brought [] step.brought items [] s (λ w. mix r (parts_together env (map (part_of (meaning code) (bound_in w names)) es))) laws brought_are all step.made
-      (λ w l means extends begin are.
-      let first : map (sound_at l) step.brought ≡ ises w items = ap (map (sound_at l)) brought_are ∙ are_ises w l items are in
-      let whole : ises w items ≡ parts_together env (map (part_of (meaning code) (bound_in w names)) es) = brought_ises step.mid step.end w r parts step.brought brings ∙ part_ises env names w es old step.mid step.parts step.each in
-      let when : map (λ (s : Sound). s.timing) step.brought ≡ map timing_of (ises w items ++ []) = ap (map (λ (s : Sound). s.timing)) brought_are ∙ (times_ises (part_is code) step.end w l items means begin are ∙ ap (map timing_of) (sym (append-nil (ises w items)))) in
-      mix_is (part_is code) l r (mix_timing r (map (λ s. s.timing) step.brought)) step.brought [] (ises w items) [] first refl (ap (mix_timing r) when)
+      let parts : List Item = part_items env ps step.parts in
+      let items : List Item = brought_items r parts step.mixed.brought in
+      let sounds_are = part_sounds env ps old step.mid step.parts step.each in
+      let brings : BringsEach step.mid step.mixed.mid r (sounds_in parts) step.mixed.brought = subst (λ ss. BringsEach step.mid step.mixed.mid r ss step.mixed.brought) sounds_are step.mixed.brings in
+      let brought_are = brought_sounds step.mid step.mixed.mid r parts step.mixed.brought brings in
+      let each = parts_come env ps old step.mid step.parts are laws step.each in
+      let all = each_brought (part_is code) old step.mid step.mixed.mid r parts [] step.mixed.brought laws (subst (λ zs. Comes (part_is code) old step.mid zs) (sym (append-nil parts)) each) brings in
+      comes_made (part_is code) old step.mixed.mid new Mix (mix_timing r (map (λ s. s.timing) step.mixed.brought)) step.mixed.brought [] step.mixed.brought items [] s (λ w. mix r (parts_together env (heard (bound_in w names)))) laws brought_are all step.mixed.made
+      (λ w l means extends begin here.
+      let first : map (sound_at l) step.mixed.brought ≡ ises w items = ap (map (sound_at l)) brought_are ∙ are_ises w l items here in
+      let whole : ises w items ≡ parts_together env (heard (bound_in w names)) =
+      brought_ises step.mid step.mixed.mid w r parts step.mixed.brought brings ∙ part_ises env w ps old step.mid step.parts step.each ∙ ap (parts_together env) (same w) in
+      let when : map (λ (s : Sound). s.timing) step.mixed.brought ≡ map timing_of (ises w items ++ []) = ap (map (λ (s : Sound). s.timing)) brought_are ∙ (times_ises (part_is code) step.mixed.mid w l items means begin here ∙ ap (map timing_of) (sym (append-nil (ises w items)))) in
+      mix_is (part_is code) l r (mix_timing r (map (λ s. s.timing) step.mixed.brought)) step.mixed.brought [] (ises w items) [] first refl (ap (mix_timing r) when)
       ∙ ap (mix r) (append-nil (ises w items) ∙ whole))

@@ -20,13 +20,15 @@ use Rattle.ny_hands.proofs.OptionLemmas.{none_some}
 use Rattle.ny_hands.specs.declared.branch.Branch.{Branch}
 use Rattle.ny_hands.specs.Calls.{IsSilent}
 use Rattle.ny_hands.specs.Frames.{Names, sounds_among}
-use Rattle.ny_trace.specs.Evaluates.{Trace, NameTurn, NodeTurn, Evaluates, numbers_in}
+use Rattle.ny_trace.specs.Evaluates.{Trace, parts_of, counted_parts, NameTurn, NodeTurn, Evaluates, numbers_in}
 use Rattle.ny_hands.specs.Hands.{AreNamed}
 use Rattle.ny_trace.specs.Laws.{KeepsFree, IsLawful}
-use Rattle.ny_trace.specs.Heights.{tall_node, IsTall, Ranks, AreLow, Stands, IsRising}
+use Rattle.ny_trace.specs.Heights.{greatest, tallest, tall_node, IsTall, Ranks, AreLow, Stands, IsRising}
 use Rattle.ny_trace.proofs.EvaluationLemmas.{below_all, below_binds, evaluates_lawful}
 use Rattle.ny_trace.proofs.HeightLemmas.{stands_none, stands_from, from_trimmed, stands_wider, stands_shared, step_made}
-use Rattle.ny_trace.proofs.RisingLemmas.{operation_stands, sign_stands, effect_stands, block_stands, call_stands, sim_stands}
+use Rattle.ny_trace.proofs.MixLemmas.{parts_are, counted_are}
+use Rattle.ny_trace.proofs.RisingLemmas.{operation_stands, sign_stands, effect_stands, block_stands, call_stands, parts_of_low, counted_low, parts_of_tallest, counted_tallest, sim_stands}
+use Rattle.ny_trace.proofs.RisingCueLemmas.{cue_stands}
 use Rattle.ny_trace.proofs.RisingSeqLemmas.{low_found, seq_stands}
 
 pub silent_stands : (tall : ℕ → ℕ) (old new : HeapState Branch) (r : Rate) (s : Sound) (rank : ℕ → ℕ) (b : ℕ) → Ranks tall old rank → IsSilent old new r s → Stands tall old new rank b (s ∷ [])
@@ -59,10 +61,19 @@ module _ (code : Code) (D : Trace) (law : IsLawful code D) (tall : ℕ → ℕ) 
       chosen false step = stands_wider tall old new rank (base + tall b.0) (base + max (tall a.0) (tall b.0)) (s ∷ []) (omega arith) (rising b.0 env names old new s step (omega (arith, below.2, inside)) laws named rank base ranks low)
   node_stands (node.Leaf g es) below step = stands_wider tall old new rank (0 + 1) (base + 1) (s ∷ []) (omega arith) (step_made tall old new _ _ [] s rank 0 laws tt ranks tt step.made)
   node_stands (node.Effect fx a es) below step = effect_stands code D law tall rising fx a (numbers_in code names es) env names old new s (omega (arith, below.0, inside)) laws named step rank base ranks low
-  node_stands (node.Cue a) below step = absurd step
-  node_stands (node.Mix order.Together es) below step = sim_stands code D law tall rising es env names old new s (below_all e (length code.nodes) es (omega (arith, inside)) below) laws named step rank base ranks low
-  node_stands (node.Mix order.InTurn es) below step = seq_stands code D law tall rising e es env names old new s (below_all e (length code.nodes) es (omega (arith, inside)) below) laws named step rank base ranks low
-  node_stands (node.Repeat o x k a) below step = absurd step
+  node_stands (node.Cue a) below step = cue_stands code D law tall rising a env names old new s (omega (arith, below, inside)) laws named step rank base ranks low
+  node_stands (node.Mix order.Together es) below step =
+      stands_wider tall old new rank (base + (tallest tall (parts_of names es) + 2)) (base + (greatest tall es + 2)) (s ∷ []) (omega (arith, parts_of_tallest tall names es))
+      (sim_stands code D law tall rising (parts_of names es) env old new s (parts_are (length code.nodes) old names named es (below_all e (length code.nodes) es (omega (arith, inside)) below)) laws step rank base ranks (parts_of_low rank base names es low))
+  node_stands (node.Mix order.InTurn es) below step =
+      stands_wider tall old new rank (base + (tallest tall (parts_of names es) + 2)) (base + (greatest tall es + 2)) (s ∷ []) (omega (arith, parts_of_tallest tall names es))
+      (seq_stands code D law tall rising e (parts_of names es) env names old new s (parts_are (length code.nodes) old names named es (below_all e (length code.nodes) es (omega (arith, inside)) below)) laws step rank base ranks (parts_of_low rank base names es low))
+  node_stands (node.Repeat order.Together i k a) below step =
+      stands_wider tall old new rank (base + (tallest tall (counted_parts names i k a) + 2)) (base + (tall a.0 + 2)) (s ∷ []) (omega (arith, counted_tallest tall names i k a))
+      (sim_stands code D law tall rising (counted_parts names i k a) env old new s (counted_are (length code.nodes) old names i k a named (omega (arith, below, inside))) laws step rank base ranks (counted_low rank base names i k a low))
+  node_stands (node.Repeat order.InTurn i k a) below step =
+      stands_wider tall old new rank (base + (tallest tall (counted_parts names i k a) + 2)) (base + (tall a.0 + 2)) (s ∷ []) (omega (arith, counted_tallest tall names i k a))
+      (seq_stands code D law tall rising e (counted_parts names i k a) env names old new s (counted_are (length code.nodes) old names i k a named (omega (arith, below, inside))) laws step rank base ranks (counted_low rank base names i k a low))
   node_stands (node.Change c a) below step = rising a.0 (changed_env c (λ k. number_of code k (scalars_of names)) env) names old new s step (omega (arith, below.1, inside)) laws named rank base ranks low
   node_stands (node.Vector es) below step = silent_stands tall old new env.sound_rate s rank (base + 0) ranks step
 

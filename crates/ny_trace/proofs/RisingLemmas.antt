@@ -1,6 +1,7 @@
 -- How high each family of nodes stands: operations, blocks and calls.
-use Rattle.std.proofs.Common.{◌≡◌, ℕ, ◌+◌, ◌<◌, max, List, [], ◌∷◌, ◌++◌, length, Option, None, refl, sym, ap, subst, arith}
+use Rattle.std.proofs.Common.{◌≡◌, ℕ, ◌+◌, ◌*◌, ◌<◌, ◌≤◌, max, map, List, [], ◌∷◌, ◌++◌, length, Option, None, refl, sym, ap, subst, ◌∙◌, arith}
 use Rattle.std.specs.Prelude.{zip, ℤ, pos}
+use Rattle.std.specs.List.{range_with_len}
 use Rattle.ny_num.specs.declared.rate.Rate.{Rate}
 use Rattle.ny_resolve.specs.declared.term.NameId.{NameId}
 use Rattle.ny_warp.specs.declared.env.Env.{Env}
@@ -18,13 +19,13 @@ use Rattle.ny_hands.proofs.OptionLemmas.{none_some}
 use Rattle.ny_hands.specs.declared.branch.Branch.{Branch}
 use Rattle.ny_hands.specs.Calls.{BringsEach}
 use Rattle.ny_hands.specs.Frames.{Names, bound_in, sounds_among}
-use Rattle.ny_trace.specs.Evaluates.{Trace, SignTurn, EffectTurn, ValueTurn, OneTurn, JoinTurn, OperationTurn, BindsTurn, BlockTurn, ValuesTurn, CallTurn, sounds_of_values, PartsTurn, SimTurn}
+use Rattle.ny_trace.specs.Evaluates.{Trace, Part, parts_of, counted_names, counted_parts, SignTurn, EffectTurn, ValueTurn, OneTurn, JoinTurn, OperationTurn, BindsTurn, BlockTurn, ValuesTurn, CallTurn, sounds_of_values, PartsTurn, SimTurn}
 use Rattle.ny_hands.specs.Hands.{AllBegin, Hand, AreNamed}
 use Rattle.ny_trace.specs.Laws.{IsLawful}
-use Rattle.ny_trace.specs.Heights.{Ranks, AreLow, Stands, IsRising, greatest, one_on_another}
+use Rattle.ny_trace.specs.Heights.{Ranks, AreLow, Stands, IsRising, greatest, tallest, one_on_another}
 use Rattle.ny_hands.proofs.HandLemmas.{hand_none, hand_more, hand_turned, begin_first, begin_last}
 use Rattle.std.proofs.lemmas.List.{append_assoc, append-nil}
-use Rattle.ny_trace.proofs.MixLemmas.{parts_come, part_sounds}
+use Rattle.ny_trace.proofs.MixLemmas.{AreParts, parts_kept, parts_come, part_sounds}
 use Rattle.ny_hands.proofs.NameLemmas.{named_kept, named_append, named_among}
 use Rattle.ny_trace.proofs.ValueLemmas.{value_comes}
 use Rattle.ny_trace.proofs.BlockLemmas.{binds_come, bind_sounds_are, args_come, arg_sounds}
@@ -49,6 +50,36 @@ among_push ((y, SoundOf s) ∷ bs) x w = ap (λ ss. s ∷ ss) (among_push bs x w
 among_first : (x : NameId) (v : Value Sound) (added : Names) → sounds_among ((x, v) ∷ added) ≡ value_list v ++ sounds_among added
 among_first x (Number v) added = refl
 among_first x (SoundOf s) added = refl
+
+-- ---- the names of parts
+
+abbrev pub PartsLow : (ℕ → ℕ) → ℕ → List Part → Type 0
+PartsLow rank base [] = Unit {0}
+PartsLow rank base (p ∷ ps) = AreLow rank base (sounds_among p.1) × PartsLow rank base ps
+
+pub parts_of_low : (rank : ℕ → ℕ) (base : ℕ) (names : Names) (es : List ExprId) → AreLow rank base (sounds_among names) → PartsLow rank base (parts_of names es)
+parts_of_low rank base names [] low = tt
+parts_of_low rank base names (e ∷ es) low = (low, parts_of_low rank base names es low)
+
+-- a number is no sound
+pub counted_low : (rank : ℕ → ℕ) (base : ℕ) (names : Names) (i : NameId) (count : ℕ) (e : ExprId) → AreLow rank base (sounds_among names) → PartsLow rank base (counted_parts names i count e)
+counted_low rank base names i count e low = each (range_with_len 0 count)
+  where
+    each : (ks : List ℕ) → PartsLow rank base (map (λ k. let p : Part = (e, counted_names names i k) in p) ks)
+    each [] = tt
+    each (k ∷ ks) = (subst (AreLow rank base) (sym (among_push names i (Number (pos (k * 1000000))) ∙ append-nil (sounds_among names))) low, each ks)
+
+-- how high they stand
+pub parts_of_tallest : (tall : ℕ → ℕ) (names : Names) (es : List ExprId) → tallest tall (parts_of names es) ≡ greatest tall es
+parts_of_tallest tall names [] = refl
+parts_of_tallest tall names (e ∷ es) = ap (λ n. max (tall e.0) n) (parts_of_tallest tall names es)
+
+pub counted_tallest : (tall : ℕ → ℕ) (names : Names) (i : NameId) (count : ℕ) (e : ExprId) → tallest tall (counted_parts names i count e) ≤ tall e.0
+counted_tallest tall names i count e = each (range_with_len 0 count)
+  where
+    each : (ks : List ℕ) → tallest tall (map (λ k. let p : Part = (e, counted_names names i k) in p) ks) ≤ tall e.0
+    each [] = omega arith
+    each (k ∷ ks) = omega (arith, each ks)
 
 module _ (code : Code) (D : Trace) (law : IsLawful code D) (tall : ℕ → ℕ) (rising : IsRising code tall D) where
   -- names stay as low
@@ -174,15 +205,20 @@ module _ (code : Code) (D : Trace) (law : IsLawful code D) (tall : ℕ → ℕ) 
 
   -- ---- parts together
 
-  parts_stand : (env : Env) (names : Names) (es : List ExprId) (old new : HeapState Branch) (ss : List Sound) → AllBelow (length code.nodes) es → HeapLaws old → AreNamed old names → PartsTurn D env names es old new ss → (rank : ℕ → ℕ) (base : ℕ) → Ranks tall old rank → AreLow rank base (sounds_among names) → Stands tall old new rank (base + greatest tall es) ss
-  parts_stand env names [] old new [] inside laws named step rank base ranks low = subst (λ (h : HeapState Branch). Stands tall old h rank (base + 0) []) step (stands_none tall old rank (base + 0) [] ranks tt)
-  parts_stand env names [] old new (s ∷ ss) inside laws named step rank base ranks low = absurd step
-  parts_stand env names (e ∷ es) old new [] inside laws named step rank base ranks low = absurd step
-  parts_stand env names (e ∷ es) old new (s ∷ ss) inside laws named step rank base ranks low =
-      let h1 = (law e.0 env names old step.0 s step.1 inside.0 laws named).hand in
-      let p1 = rising e.0 env names old step.0 s step.1 inside.0 laws named rank base ranks low in
-      let p2 = parts_stand env names es step.0 new ss inside.1 h1.laws (named_kept old step.0 h1.kept names named) step.2 p1.later base p1.ranks (names_low old step.0 names rank (base + tall e.0) base (s ∷ []) named p1 low) in
-      stands_more tall old step.0 new rank (base + tall e.0) (base + greatest tall es) (base + max (tall e.0) (greatest tall es)) (s ∷ []) ss (omega arith) (omega arith) h1 p1 p2
+  -- the names of parts stay as low
+  pub parts_low : (old mid : HeapState Branch) (ps : List Part) (rank : ℕ → ℕ) (a base : ℕ) (ss : List Sound) → AreParts (length code.nodes) old ps → (p : Stands tall old mid rank a ss) → PartsLow rank base ps → PartsLow p.later base ps
+  parts_low old mid [] rank a base ss are p low = tt
+  parts_low old mid (q ∷ ps) rank a base ss are p low = (names_low old mid q.1 rank a base ss are.1 p low.0, parts_low old mid ps rank a base ss are.2 p low.1)
+
+  parts_stand : (env : Env) (ps : List Part) (old new : HeapState Branch) (ss : List Sound) → AreParts (length code.nodes) old ps → HeapLaws old → PartsTurn D env ps old new ss → (rank : ℕ → ℕ) (base : ℕ) → Ranks tall old rank → PartsLow rank base ps → Stands tall old new rank (base + tallest tall ps) ss
+  parts_stand env [] old new [] are laws step rank base ranks low = subst (λ (h : HeapState Branch). Stands tall old h rank (base + 0) []) step (stands_none tall old rank (base + 0) [] ranks tt)
+  parts_stand env [] old new (s ∷ ss) are laws step rank base ranks low = absurd step
+  parts_stand env (p ∷ ps) old new [] are laws step rank base ranks low = absurd step
+  parts_stand env (p ∷ ps) old new (s ∷ ss) are laws step rank base ranks low =
+      let h1 = (law p.0.0 env p.1 old step.0 s step.1 are.0 laws are.1).hand in
+      let p1 = rising p.0.0 env p.1 old step.0 s step.1 are.0 laws are.1 rank base ranks low.0 in
+      let p2 = parts_stand env ps step.0 new ss (parts_kept (length code.nodes) old step.0 h1.kept ps are.2) h1.laws step.2 p1.later base p1.ranks (parts_low old step.0 ps rank (base + tall p.0.0) base (s ∷ []) are.2 p1 low.1) in
+      stands_more tall old step.0 new rank (base + tall p.0.0) (base + tallest tall ps) (base + max (tall p.0.0) (tallest tall ps)) (s ∷ []) ss (omega arith) (omega arith) h1 p1 p2
 
   -- each is brought to a rate, one after another: all brought ones stand lower than m + 1
   brings_stand : (old mid new : HeapState Branch) (r : Rate) (ss done ts hs : List Sound) (rank : ℕ → ℕ) (m : ℕ) → HeapLaws old → Hand old mid (ss ++ done) → (p : Stands tall old mid rank (m + 1) hs) → AreLow p.later m ss → AreLow p.later (m + 1) done → BringsEach mid new r ss ts → Hand old new (ts ++ done) × Stands tall old new rank (m + 1) (ts ++ done)
@@ -213,18 +249,18 @@ module _ (code : Code) (D : Trace) (law : IsLawful code D) (tall : ℕ → ℕ) 
         },
       )
 
-  pub sim_stands : (es : List ExprId) (env : Env) (names : Names) (old new : HeapState Branch) (s : Sound) → AllBelow (length code.nodes) es → HeapLaws old → AreNamed old names → SimTurn D es env names old new s → (rank : ℕ → ℕ) (base : ℕ) → Ranks tall old rank → AreLow rank base (sounds_among names) → Stands tall old new rank (base + (greatest tall es + 2)) (s ∷ [])
+  pub sim_stands : (ps : List Part) (env : Env) (old new : HeapState Branch) (s : Sound) → AreParts (length code.nodes) old ps → HeapLaws old → SimTurn D ps env old new s → (rank : ℕ → ℕ) (base : ℕ) → Ranks tall old rank → PartsLow rank base ps → Stands tall old new rank (base + (tallest tall ps + 2)) (s ∷ [])
   unfolding stands_wider
-  sim_stands es env names old new s below laws named step rank base ranks low =
-      let m = base + greatest tall es in
-      let comes = parts_come code D law env names es old step.mid step.parts below laws named step.each in
-      let h1 : Hand old step.mid step.parts = subst (λ ss. Hand old step.mid ss) (sym (part_sounds code D law env names es old step.mid step.parts step.each)) comes.hand in
-      let p1 = parts_stand env names es old step.mid step.parts below laws named step.each rank base ranks low in
-      let all = brings_stand old step.mid step.end env.sound_rate step.parts [] step.brought step.parts rank m laws (subst (λ ss. Hand old step.mid ss) (sym (append-nil step.parts)) h1) (stands_wider tall old step.mid rank m (m + 1) step.parts (omega arith) p1) p1.in_hand tt step.brings in
-      let same : step.brought ++ [] ≡ step.brought = append-nil step.brought in
-      let h2 = subst (λ ss. Hand old step.end ss) same all.0 in
-      let v = step_made tall step.end new _ _ step.brought s all.1.later (m + 1) h2.laws h2.begin all.1.ranks (subst (AreLow all.1.later (m + 1)) same all.1.in_hand) step.made in
-      stands_seq tall old step.end new rank (m + 1) (m + 1 + 1) (base + (greatest tall es + 2)) (step.brought ++ []) (s ∷ []) (omega arith) (omega arith) h2.kept all.1 v
+  sim_stands ps env old new s are laws step rank base ranks low =
+      let m = base + tallest tall ps in
+      let comes = parts_come code D law env ps old step.mid step.parts are laws step.each in
+      let h1 : Hand old step.mid step.parts = subst (λ ss. Hand old step.mid ss) (sym (part_sounds code D law env ps old step.mid step.parts step.each)) comes.hand in
+      let p1 = parts_stand env ps old step.mid step.parts are laws step.each rank base ranks low in
+      let all = brings_stand old step.mid step.mixed.mid env.sound_rate step.parts [] step.mixed.brought step.parts rank m laws (subst (λ ss. Hand old step.mid ss) (sym (append-nil step.parts)) h1) (stands_wider tall old step.mid rank m (m + 1) step.parts (omega arith) p1) p1.in_hand tt step.mixed.brings in
+      let same : step.mixed.brought ++ [] ≡ step.mixed.brought = append-nil step.mixed.brought in
+      let h2 = subst (λ ss. Hand old step.mixed.mid ss) same all.0 in
+      let v = step_made tall step.mixed.mid new _ _ step.mixed.brought s all.1.later (m + 1) h2.laws h2.begin all.1.ranks (subst (AreLow all.1.later (m + 1)) same all.1.in_hand) step.mixed.made in
+      stands_seq tall old step.mixed.mid new rank (m + 1) (m + 1 + 1) (base + (tallest tall ps + 2)) (step.mixed.brought ++ []) (s ∷ []) (omega arith) (omega arith) h2.kept all.1 v
 
   -- with the other sign
   pub sign_stands : (a : ExprId) (env : Env) (names : Names) (old new : HeapState Branch) (s : Sound) → a.0 < length code.nodes → HeapLaws old → AreNamed old names → SignTurn D code a env names old new s → (rank : ℕ → ℕ) (base : ℕ) → Ranks tall old rank → AreLow rank base (sounds_among names) → Stands tall old new rank (base + (tall a.0 + 2)) (s ∷ [])

@@ -1,6 +1,6 @@
 -- Evaluation leaves no part that is due.
 use Rattle.std.proofs.Common.{◌≡◌, ◌⊎◌, inl, inr, ℕ, zero, suc, ◌+◌, ◌*◌, ◌≤◌, List, [], ◌∷◌, ◌++◌, map, Option, None, Some, refl, sym, ap, subst, ◌∙◌, arith}
-use Rattle.std.specs.Prelude.{zip, get_or, if◌then◌else◌, pos}
+use Rattle.std.specs.Prelude.{zip, get_or, if◌then◌else◌, Bool, true, false, ℤ, pos}
 use Rattle.std.proofs.lemmas.Bool.{cases_eq}
 use Rattle.ny_num.specs.Grid.{index_at}
 use Rattle.ny_num.specs.declared.rate.Rate.{Rate}
@@ -21,6 +21,7 @@ use Rattle.ny_check.specs.declared.value.Value.{Value}
 use Rattle.ny_check.specs.declared.value.Value.TheVariants.{Number, Sound as SoundOf}
 use Rattle.ny_check.specs.Code.{Code, node_at as node_in, function_at}
 use Rattle.ny_check.specs.Values.{scalars_of, number_of, test_of}
+use Rattle.ny_check.specs.Behaviours.{is_one, cue_timing}
 use Rattle.ny_check.specs.Families.{changed_env}
 use Rattle.ny_heap.specs.declared.sound.Sound.{Sound}
 use Rattle.ny_heap.specs.Heap.{Kind, Node, Waiting, HeapState, node_at, list_of, place_of}
@@ -31,7 +32,7 @@ use Rattle.ny_hands.proofs.HeapLemmas.{Length, Empty, Long, length_of}
 use Rattle.ny_hands.specs.declared.branch.Branch.{Branch}
 use Rattle.ny_hands.specs.Calls.{Shares, Places, MakesUnit, ReleasesAll, Brings, Stay, Change, BringsEach, IsSilent}
 use Rattle.ny_hands.specs.Frames.{Names, sounds_among}
-use Rattle.ny_trace.specs.Evaluates.{Trace, NameTurn, ValueTurn, BindsTurn, ValuesTurn, JoinTurn, PartsTurn, NextsTurn, KeepTurn, KeepsTurn, sounds_of_values, WaitsTurn, NodeTurn, Evaluates}
+use Rattle.ny_trace.specs.Evaluates.{Trace, Part, parts_of, counted_parts, LouderTurn, NameTurn, ValueTurn, BindsTurn, ValuesTurn, JoinTurn, PartsTurn, SimTurn, NextsTurn, KeepTurn, KeepsTurn, sounds_of_values, WaitsTurn, SeqTurn, NodeTurn, Evaluates}
 use Rattle.ny_trace.specs.Settled.{AllSettled, IsSettling}
 use Rattle.ny_hands.proofs.MarkLemmas.{spent_like, marked_like}
 use Rattle.ny_trace.proofs.HeightLemmas.{ComesFrom, from_trimmed}
@@ -104,11 +105,15 @@ settled_kept names (x ∷ xs) k old new kept ss step all = by_found (λ k from k
     by_found more (Some (Number v)) step = more k old step.0 ss step.1 all
     by_found more (Some (SoundOf a)) step = more (suc k) step.3 step.0 step.2 step.5 (settled_shared old step.3 a step.1 step.4 all)
 
-settled_waits : (code : Code) (env : Env) (names : Names) (es : List ExprId) (old new : HeapState Branch) (ps : List (Branch × List Sound)) → WaitsTurn code env names es old new ps → AllSettled old → AllSettled new
-settled_waits code env names [] old new [] step all = subst (λ (h : HeapState Branch). AllSettled h) step all
-settled_waits code env names [] old new (p ∷ ps) step all = absurd step
-settled_waits code env names (e ∷ es) old new [] step all = absurd step
-settled_waits code env names (e ∷ es) old new (p ∷ ps) step all = settled_waits code env names es step.0 new ps step.4 (settled_kept names (get_or code.free e.0 []) 0 old step.0 p.0.names p.1 step.3 all)
+settled_waits : (code : Code) (env : Env) (ps : List Part) (old new : HeapState Branch) (qs : List (Branch × List Sound)) → WaitsTurn code env ps old new qs → AllSettled old → AllSettled new
+settled_waits code env [] old new [] step all = subst (λ (h : HeapState Branch). AllSettled h) step all
+settled_waits code env [] old new (q ∷ qs) step all = absurd step
+settled_waits code env (p ∷ ps) old new [] step all = absurd step
+settled_waits code env (p ∷ ps) old new (q ∷ qs) step all = settled_waits code env ps step.0 new qs step.4 (settled_kept p.1 (get_or code.free p.0.0 []) 0 old step.0 q.0.names q.1 step.3 all)
+
+settled_louder : (old new : HeapState Branch) (is : Bool) (loud : ℤ) (a s : Sound) → LouderTurn is loud a old new s → AllSettled old → AllSettled new
+settled_louder old new true loud a s step all = subst (λ (h : HeapState Branch). AllSettled h) step.0 all
+settled_louder old new false loud a s step all = settled_made old new _ _ (a ∷ []) [] (a ∷ []) s (inl refl) step all
 
 -- ---- families
 
@@ -137,22 +142,40 @@ module _ (code : Code) (D : Trace) (law : IsSettling D) where
       settled_made step.end new _ _ (step.first ∷ step.second ∷ []) [] (step.first ∷ step.second ∷ []) s (inl refl) step.made
       (settled_brought step.mid step.end r b step.second step.brings_second (settled_brought old step.mid r a step.first step.brings_first all))
 
-  settled_parts : (env : Env) (names : Names) (es : List ExprId) (old new : HeapState Branch) (ss : List Sound) → PartsTurn D env names es old new ss → AllSettled old → AllSettled new
-  settled_parts env names [] old new [] step all = subst (λ (h : HeapState Branch). AllSettled h) step all
-  settled_parts env names [] old new (s ∷ ss) step all = absurd step
-  settled_parts env names (e ∷ es) old new [] step all = absurd step
-  settled_parts env names (e ∷ es) old new (s ∷ ss) step all = settled_parts env names es step.0 new ss step.2 (law e.0 env names old step.0 s step.1 all)
+  settled_parts : (env : Env) (ps : List Part) (old new : HeapState Branch) (ss : List Sound) → PartsTurn D env ps old new ss → AllSettled old → AllSettled new
+  settled_parts env [] old new [] step all = subst (λ (h : HeapState Branch). AllSettled h) step all
+  settled_parts env [] old new (s ∷ ss) step all = absurd step
+  settled_parts env (p ∷ ps) old new [] step all = absurd step
+  settled_parts env (p ∷ ps) old new (s ∷ ss) step all = settled_parts env ps step.0 new ss step.2 (law p.0.0 env p.1 old step.0 s step.1 all)
 
-  settled_nexts : (env : Env) (names : Names) (stop : ℕ) (es : List ExprId) (old new : HeapState Branch) (ss : List Sound) → NextsTurn D env names stop es old new ss → AllSettled old → AllSettled new
-  settled_nexts env names stop [] old new [] step all = subst (λ (h : HeapState Branch). AllSettled h) step all
-  settled_nexts env names stop [] old new (s ∷ ss) step all = absurd step
-  settled_nexts env names stop (e ∷ es) old new [] step all = absurd step
-  settled_nexts env names stop (e ∷ es) old new (s ∷ ss) step all =
+  settled_nexts : (env : Env) (stop : ℕ) (ps : List Part) (old new : HeapState Branch) (ss : List Sound) → NextsTurn D env stop ps old new ss → AllSettled old → AllSettled new
+  settled_nexts env stop [] old new [] step all = subst (λ (h : HeapState Branch). AllSettled h) step all
+  settled_nexts env stop [] old new (s ∷ ss) step all = absurd step
+  settled_nexts env stop (p ∷ ps) old new [] step all = absurd step
+  settled_nexts env stop (p ∷ ps) old new (s ∷ ss) step all =
       let next = step.1 in
-      settled_nexts env names s.timing.stop es step.0 new ss step.2
+      settled_nexts env s.timing.stop ps step.0 new ss step.2
       (settled_placed next.end step.0 (placed_timing (index_at stop env.sound_rate)) next.brought s next.places
       (settled_brought next.mid next.end env.sound_rate next.part next.brought next.brings
-      (law e.0 (from_stop env stop) names old next.mid next.part next.evaluates all)))
+      (law p.0.0 (from_stop env stop) p.1 old next.mid next.part next.evaluates all)))
+
+  -- ---- mixes
+
+  settled_sim : (ps : List Part) (env : Env) (old new : HeapState Branch) (s : Sound) → SimTurn D ps env old new s → AllSettled old → AllSettled new
+  settled_sim ps env old new s step all =
+      settled_made step.mixed.mid new _ _ step.mixed.brought [] step.mixed.brought s (inl refl) step.mixed.made (settled_brings step.mid step.mixed.mid env.sound_rate step.parts step.mixed.brought step.mixed.brings (settled_parts env ps old step.mid step.parts step.each all))
+
+  settled_seq : (e : ℕ) (ps : List Part) (env : Env) (names : Names) (old new : HeapState Branch) (s : Sound) → SeqTurn D code e ps env names old new s → AllSettled old → AllSettled new
+  settled_seq e ps env names old new s step all =
+      settled_made step.four new _ step.t (step.brought ∷ step.others) (map waiting_of step.waiting) _ s (by_waiting step.not_due) step.made
+      (settled_waits code env step.later step.three step.four step.waiting step.waits
+      (settled_nexts env step.brought.timing.stop step.now step.two step.three step.others step.nexts
+      (settled_brought step.one step.two env.sound_rate step.part step.brought step.brings
+      (law step.first.0.0 env step.first.1 old step.one step.part step.evaluates all))))
+    where
+      by_waiting : (step.waiting ≡ []) ⊎ (step.t.start + step.four.block ≤ index_at (last_stop_of 0 (step.brought ∷ step.others)) step.t.rate) → (map waiting_of step.waiting ≡ []) ⊎ (step.t.start + step.four.block ≤ index_at (last_stop_of 0 (step.brought ∷ step.others)) step.t.rate)
+      by_waiting (inl none) = inl (ap (map waiting_of) none)
+      by_waiting (inr after) = inr after
 
   settled_node : (e : ℕ) (at : NodeOf) (env : Env) (names : Names) (old new : HeapState Branch) (s : Sound) → NodeTurn D code e at env names old new s → AllSettled old → AllSettled new
   settled_node e (node.Local x) env names old new s step all = by_found (last_of (same_name x) names) step
@@ -171,18 +194,12 @@ module _ (code : Code) (D : Trace) (law : IsSettling D) where
   settled_node e (node.Call f es) env names old new s step all =
       settled_released step.end new (sounds_of_values step.values) step.given_up
       (law (function_at code f.0).body.0 env (zip (function_at code f.0).params step.values) step.mid step.end s step.inside (settled_values env names es old step.mid step.values step.arguments all))
-  settled_node e (node.Mix order.Together es) env names old new s step all =
-      settled_made step.end new _ _ step.brought [] step.brought s (inl refl) step.made (settled_brings step.mid step.end env.sound_rate step.parts step.brought step.brings (settled_parts env names es old step.mid step.parts step.each all))
-  settled_node e (node.Mix order.InTurn es) env names old new s step all =
-      settled_made step.four new _ step.t (step.brought ∷ step.others) (map waiting_of step.waiting) _ s (by_waiting step.not_due) step.made
-      (settled_waits code env names step.later step.three step.four step.waiting step.waits
-      (settled_nexts env names step.brought.timing.stop step.now step.two step.three step.others step.nexts
-      (settled_brought step.one step.two env.sound_rate step.part step.brought step.brings
-      (law step.first.0 env names old step.one step.part step.evaluates all))))
-    where
-      by_waiting : (step.waiting ≡ []) ⊎ (step.t.start + step.four.block ≤ index_at (last_stop_of 0 (step.brought ∷ step.others)) step.t.rate) → (map waiting_of step.waiting ≡ []) ⊎ (step.t.start + step.four.block ≤ index_at (last_stop_of 0 (step.brought ∷ step.others)) step.t.rate)
-      by_waiting (inl none) = inl (ap (map waiting_of) none)
-      by_waiting (inr after) = inr after
+  settled_node e (node.Cue a) env names old new s step all =
+      settled_louder step.cued.mid new (is_one env.loud) env.loud step.cued.later s step.cued.louder (settled_placed step.mid step.cued.mid (cue_timing env) step.part step.cued.later step.cued.places (law a.0 env names old step.mid step.part step.evaluates all))
+  settled_node e (node.Mix order.Together es) env names old new s step all = settled_sim (parts_of names es) env old new s step all
+  settled_node e (node.Mix order.InTurn es) env names old new s step all = settled_seq e (parts_of names es) env names old new s step all
+  settled_node e (node.Repeat order.Together i k a) env names old new s step all = settled_sim (counted_parts names i k a) env old new s step all
+  settled_node e (node.Repeat order.InTurn i k a) env names old new s step all = settled_seq e (counted_parts names i k a) env names old new s step all
   settled_node e (node.Number v) env names old new s step all = settled_silent old new env.sound_rate s step all
   settled_node e (node.Global a) env names old new s step all = settled_silent old new env.sound_rate s step all
   settled_node e (node.Div a v) env names old new s step all = settled_silent old new env.sound_rate s step all
@@ -191,8 +208,6 @@ module _ (code : Code) (D : Trace) (law : IsSettling D) where
   settled_node e (node.Or a b) env names old new s step all = settled_silent old new env.sound_rate s step all
   settled_node e (node.Not a) env names old new s step all = settled_silent old new env.sound_rate s step all
   settled_node e (node.Vector es) env names old new s step all = settled_silent old new env.sound_rate s step all
-  settled_node e (node.Cue a) env names old new s step all = absurd step
-  settled_node e (node.Repeat o x k a) env names old new s step all = absurd step
 
 pub evaluates_settling : (code : Code) (n : ℕ) → IsSettling (Evaluates code n)
 evaluates_settling code zero e env names old new s t all = absurd t

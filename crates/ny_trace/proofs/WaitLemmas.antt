@@ -1,6 +1,7 @@
 -- Branches that wait: the sounds that they keep, and the parts that they are.
 use Rattle.std.proofs.Common.{cond, ◌≡◌, ℕ, suc, Bool, true, false, List, [], ◌∷◌, ◌++◌, length, get_or, map, Option, None, Some, refl, sym, ap, subst, ◌∙◌, arith}
 use Rattle.std.specs.Option.{option_map}
+use Rattle.std.specs.List.{range_with_len}
 use Rattle.std.proofs.lemmas.List.{append_assoc, length-append}
 use Rattle.std.proofs.Math.Seq.{get_or-append_seam}
 use Rattle.ny_num.specs.declared.rate.Rate.{Rate}
@@ -18,7 +19,7 @@ use Rattle.ny_check.specs.declared.value.Value.{Value}
 use Rattle.ny_check.specs.declared.value.Value.TheVariants.{Number, Sound as SoundOf}
 use Rattle.ny_check.specs.Code.{Code}
 use Rattle.ny_check.specs.Parts.{parts_after, next_part}
-use Rattle.ny_check.specs.Meaning.{Bound, meaning, part_of}
+use Rattle.ny_check.specs.Meaning.{Bound, meaning}
 use Rattle.ny_heap.specs.declared.sound.Sound.{Sound}
 use Rattle.ny_heap.specs.Heap.{HeapState}
 use Rattle.ny_heap.specs.Means.{Whole, Extends, parts_from, following, captured_sound}
@@ -27,13 +28,14 @@ use Rattle.ny_heap.specs.Steps.{waiting_of, sounds_of, captured_of}
 use Rattle.ny_hands.proofs.RateLemmas.{same_rate}
 use Rattle.ny_hands.specs.Frames.{Names, sound_at, value_in, bound_in, captured_bound, part_is}
 use Rattle.ny_hands.specs.declared.branch.Branch.{Branch}
-use Rattle.ny_trace.specs.Evaluates.{KeepTurn, KeepsTurn, WaitsTurn}
+use Rattle.ny_trace.specs.Evaluates.{Part, parts_of, counted_names, counted_parts, KeepTurn, KeepsTurn, WaitsTurn}
 use Rattle.ny_hands.specs.Hands.{Item, item, sounds_in, Are, Comes, AreNamed}
 use Rattle.ny_trace.specs.Laws.{pick, picked, KeepFree}
 use Rattle.ny_hands.proofs.ComingLemmas.{sounds_append, are_first, are_last, comes_none, comes_shared, stable_begin}
 use Rattle.ny_hands.proofs.NameLemmas.{last_bound, named_found, named_kept}
 use Rattle.ny_trace.proofs.ValueLemmas.{Agree, comes_then}
 use Rattle.ny_trace.proofs.BlockLemmas.{agree_append}
+use Rattle.ny_trace.proofs.MixLemmas.{AreParts, parts_kept, part_in}
 
 -- ---- the sounds that are kept
 
@@ -134,71 +136,88 @@ resampled_rate r s = by_same (is_same_rate s.rate r) refl
 pub at_rate : (r : Rate) (s : sounds.Sound) → s.rate ≡ r → (let q : sounds.Sound = record s { rate = r } in q) ≡ s
 at_rate r s same = λ i. record s { rate = sym same i }
 
+-- each part means the same where its free names alone are kept
+abbrev pub PartsKeepFree : Code → List Part → Type 0
+PartsKeepFree code [] = Unit {0}
+PartsKeepFree code (p ∷ ps) =
+    ((env : Env) (bound : Bound) → meaning code p.0.0 env (picked (get_or code.free p.0.0 []) bound) ≡ meaning code p.0.0 env bound) × PartsKeepFree code ps
+
+pub parts_free : (code : Code) (names : Names) (es : List ExprId) → KeepFree code es → PartsKeepFree code (parts_of names es)
+parts_free code names [] free = tt
+parts_free code names (e ∷ es) free = (free.0, parts_free code names es free.1)
+
+pub counted_free : (code : Code) (names : Names) (i : NameId) (count : ℕ) (e : ExprId) → KeepFree code (e ∷ []) → PartsKeepFree code (counted_parts names i count e)
+counted_free code names i count e free = each (range_with_len 0 count)
+  where
+    each : (ks : List ℕ) → PartsKeepFree code (map (λ k. let p : Part = (e, counted_names names i k) in p) ks)
+    each [] = tt
+    each (k ∷ ks) = (free.0, each ks)
+
 module _ (code : Code) where
   -- what all waiting branches keep
-  abbrev pub waits_items : Names → List ExprId → List (Branch × List Sound) → List Item
-  waits_items names [] ps = []
-  waits_items names (e ∷ es) [] = []
-  waits_items names (e ∷ es) (p ∷ ps) = kept_items names (get_or code.free e.0 []) p.1 ++ waits_items names es ps
+  abbrev pub waits_items : List Part → List (Branch × List Sound) → List Item
+  waits_items [] qs = []
+  waits_items (p ∷ ps) [] = []
+  waits_items (p ∷ ps) (q ∷ qs) = kept_items p.1 (get_or code.free p.0.0 []) q.1 ++ waits_items ps qs
 
-  pub waits_agree : {B : Type 0} (old : HeapState B) (names : Names) → AreNamed old names → (w l : Whole) → Extends old w l → (es : List ExprId) (ps : List (Branch × List Sound)) → Agree w l (waits_items names es ps) (waits_items names es ps)
-  waits_agree old names named w l extends [] ps = tt
-  waits_agree old names named w l extends (e ∷ es) [] = tt
-  waits_agree old names named w l extends (e ∷ es) (p ∷ ps) =
-      let first : List Item = kept_items names (get_or code.free e.0 []) p.1 in
-      let rest : List Item = waits_items names es ps in
-      agree_append w l first rest first rest (kept_agree old names named w l extends (get_or code.free e.0 []) p.1) (waits_agree old names named w l extends es ps)
+  pub waits_agree : (n : ℕ) (old : HeapState Branch) (w l : Whole) → Extends old w l → (ps : List Part) → AreParts n old ps → (qs : List (Branch × List Sound)) → Agree w l (waits_items ps qs) (waits_items ps qs)
+  waits_agree n old w l extends [] are qs = tt
+  waits_agree n old w l extends (p ∷ ps) are [] = tt
+  waits_agree n old w l extends (p ∷ ps) are (q ∷ qs) =
+      let first : List Item = kept_items p.1 (get_or code.free p.0.0 []) q.1 in
+      let rest : List Item = waits_items ps qs in
+      agree_append w l first rest first rest (kept_agree old p.1 are.1 w l extends (get_or code.free p.0.0 []) q.1) (waits_agree n old w l extends ps are.2 qs)
 
-  pub waits_come : (env : Env) (names : Names) (es : List ExprId) (old new : HeapState Branch) (ps : List (Branch × List Sound)) → HeapLaws old → AreNamed old names → WaitsTurn code env names es old new ps → Comes (part_is code) old new (waits_items names es ps)
-  waits_come env names [] old new [] laws named step = subst (λ (h : HeapState Branch). Comes (part_is code) old h []) step (comes_none (part_is code) old laws)
-  waits_come env names [] old new (p ∷ ps) laws named step = absurd step
-  waits_come env names (e ∷ es) old new [] laws named step = absurd step
-  waits_come env names (e ∷ es) old new (p ∷ ps) laws named step =
-      let first = keeps_come code names (get_or code.free e.0 []) 0 old step.0 p.0.names p.1 laws named step.3 in
-      let rest = waits_come env names es step.0 new ps first.hand.laws (named_kept old step.0 first.hand.kept names named) step.4 in
-      comes_then (part_is code) old step.0 new (kept_items names (get_or code.free e.0 []) p.1) (waits_items names es ps) (waits_items names es ps) refl (λ w l means extends are. waits_agree old names named w l extends es ps) first rest
+  pub waits_come : (n : ℕ) (env : Env) (ps : List Part) (old new : HeapState Branch) (qs : List (Branch × List Sound)) → AreParts n old ps → HeapLaws old → WaitsTurn code env ps old new qs → Comes (part_is code) old new (waits_items ps qs)
+  waits_come n env [] old new [] are laws step = subst (λ (h : HeapState Branch). Comes (part_is code) old h []) step (comes_none (part_is code) old laws)
+  waits_come n env [] old new (q ∷ qs) are laws step = absurd step
+  waits_come n env (p ∷ ps) old new [] are laws step = absurd step
+  waits_come n env (p ∷ ps) old new (q ∷ qs) are laws step =
+      let first = keeps_come code p.1 (get_or code.free p.0.0 []) 0 old step.0 q.0.names q.1 laws are.1 step.3 in
+      let rest = waits_come n env ps step.0 new qs (parts_kept n old step.0 first.hand.kept ps are.2) first.hand.laws step.4 in
+      comes_then (part_is code) old step.0 new (kept_items p.1 (get_or code.free p.0.0 []) q.1) (waits_items ps qs) (waits_items ps qs) refl (λ w l means extends here. waits_agree n old w l extends ps are.2 qs) first rest
 
-  pub waits_sounds : (env : Env) (names : Names) (es : List ExprId) (old new : HeapState Branch) (ps : List (Branch × List Sound)) → WaitsTurn code env names es old new ps → sounds_of ps ≡ sounds_in (waits_items names es ps)
-  waits_sounds env names [] old new [] step = refl
-  waits_sounds env names [] old new (p ∷ ps) step = absurd step
-  waits_sounds env names (e ∷ es) old new [] step = absurd step
-  waits_sounds env names (e ∷ es) old new (p ∷ ps) step =
-      (λ i. kept_sounds names (get_or code.free e.0 []) 0 old step.0 p.0.names p.1 step.3 i ++ waits_sounds env names es step.0 new ps step.4 i)
-      ∙ sym (sounds_append (kept_items names (get_or code.free e.0 []) p.1) (waits_items names es ps))
+  pub waits_sounds : (env : Env) (ps : List Part) (old new : HeapState Branch) (qs : List (Branch × List Sound)) → WaitsTurn code env ps old new qs → sounds_of qs ≡ sounds_in (waits_items ps qs)
+  waits_sounds env [] old new [] step = refl
+  waits_sounds env [] old new (q ∷ qs) step = absurd step
+  waits_sounds env (p ∷ ps) old new [] step = absurd step
+  waits_sounds env (p ∷ ps) old new (q ∷ qs) step =
+      (λ i. kept_sounds p.1 (get_or code.free p.0.0 []) 0 old step.0 q.0.names q.1 step.3 i ++ waits_sounds env ps step.0 new qs step.4 i)
+      ∙ sym (sounds_append (kept_items p.1 (get_or code.free p.0.0 []) q.1) (waits_items ps qs))
 
   -- taken in turn they are the parts of the meaning
-  pub waits_are : (env : Env) (names : Names) (w l : Whole) (stop : ℕ) (es : List ExprId) (old new : HeapState Branch) (ps : List (Branch × List Sound)) → KeepFree code es → WaitsTurn code env names es old new ps → Are w l (waits_items names es ps) → parts_from (part_is code) l.samples env.sound_rate stop (map waiting_of ps) ≡ parts_after env stop (map (part_of (meaning code) (bound_in w names)) es)
-  waits_are env names w l stop [] old new [] free step are = refl
-  waits_are env names w l stop [] old new (p ∷ ps) free step are = absurd step
-  waits_are env names w l stop (e ∷ es) old new [] free step are = absurd step
-  waits_are env names w l stop (e ∷ es) old new (p ∷ ps) free step are =
-      (λ i. first i ∷ parts_from (part_is code) l.samples env.sound_rate (first i).stop (map waiting_of ps))
-      ∙ ap (λ rest. part ∷ rest) (waits_are env names w l part.stop es step.0 new ps free.1 step.4 (are_last w l (kept_items names (get_or code.free e.0 []) p.1) (waits_items names es ps) are))
+  pub waits_are : (env : Env) (w l : Whole) (stop : ℕ) (ps : List Part) (old new : HeapState Branch) (qs : List (Branch × List Sound)) → PartsKeepFree code ps → WaitsTurn code env ps old new qs → Are w l (waits_items ps qs) → parts_from (part_is code) l.samples env.sound_rate stop (map waiting_of qs) ≡ parts_after env stop (map (part_in code w) ps)
+  waits_are env w l stop [] old new [] free step are = refl
+  waits_are env w l stop [] old new (q ∷ qs) free step are = absurd step
+  waits_are env w l stop (p ∷ ps) old new [] free step are = absurd step
+  waits_are env w l stop (p ∷ ps) old new (q ∷ qs) free step are =
+      (λ i. first i ∷ parts_from (part_is code) l.samples env.sound_rate (first i).stop (map waiting_of qs))
+      ∙ ap (λ rest. part ∷ rest) (waits_are env w l part.stop ps step.0 new qs free.1 step.4 (are_last w l (kept_items p.1 (get_or code.free p.0.0 []) q.1) (waits_items ps qs) are))
     where
       part : sounds.Sound
-      part = next_part env stop (part_of (meaning code) (bound_in w names) e)
+      part = next_part env stop (part_in code w p)
 
       meant : sounds.Sound
-      meant = meaning code e.0 (from_stop env stop) (bound_in w names)
+      meant = part_in code w p (from_stop env stop)
 
-      same : captured_bound env.sound_rate (map (sound_at l) p.1) p.0.names ≡ picked (get_or code.free e.0 []) (bound_in w names)
-      same = kept_bound env.sound_rate w l names (get_or code.free e.0 []) 0 old step.0 p.0.names p.1 [] refl step.3 (are_first w l (kept_items names (get_or code.free e.0 []) p.1) (waits_items names es ps) are)
+      same : captured_bound env.sound_rate (map (sound_at l) q.1) q.0.names ≡ picked (get_or code.free p.0.0 []) (bound_in w p.1)
+      same = kept_bound env.sound_rate w l p.1 (get_or code.free p.0.0 []) 0 old step.0 q.0.names q.1 [] refl step.3 (are_first w l (kept_items p.1 (get_or code.free p.0.0 []) q.1) (waits_items ps qs) are)
 
-      is : part_is code p.0 (map (sound_at l) p.1) stop ≡ resampled env.sound_rate meant
+      is : part_is code q.0 (map (sound_at l) q.1) stop ≡ resampled env.sound_rate meant
       is =
-          (λ i. resampled (step.2 i).sound_rate (meaning code (step.1 i).0 (from_stop (step.2 i) stop) (captured_bound (step.2 i).sound_rate (map (sound_at l) p.1) p.0.names)))
-          ∙ ap (λ b. resampled env.sound_rate (meaning code e.0 (from_stop env stop) b)) same
-          ∙ ap (resampled env.sound_rate) (free.0 (from_stop env stop) (bound_in w names))
+          (λ i. resampled (step.2 i).sound_rate (meaning code (step.1 i).0 (from_stop (step.2 i) stop) (captured_bound (step.2 i).sound_rate (map (sound_at l) q.1) q.0.names)))
+          ∙ ap (λ b. resampled env.sound_rate (meaning code p.0.0 (from_stop env stop) b)) same
+          ∙ ap (resampled env.sound_rate) (free.0 (from_stop env stop) (bound_in w p.1))
 
-      captured_are : map (λ c. captured_sound l.samples c) (map captured_of p.1) ≡ map (sound_at l) p.1
-      captured_are = each p.1
+      captured_are : map (λ c. captured_sound l.samples c) (map captured_of q.1) ≡ map (sound_at l) q.1
+      captured_are = each q.1
         where
           each : (ss : List Sound) → map (λ c. captured_sound l.samples c) (map captured_of ss) ≡ map (sound_at l) ss
           each [] = refl
           each (s ∷ ss) = ap (λ rest. sound_at l s ∷ rest) (each ss)
 
-      first : following env.sound_rate stop (part_is code p.0 (map (λ c. captured_sound l.samples c) (map captured_of p.1)) stop) ≡ part
+      first : following env.sound_rate stop (part_is code q.0 (map (λ c. captured_sound l.samples c) (map captured_of q.1)) stop) ≡ part
       first =
-          ap (λ cs. following env.sound_rate stop (part_is code p.0 cs stop)) captured_are
+          ap (λ cs. following env.sound_rate stop (part_is code q.0 cs stop)) captured_are
           ∙ (ap (following env.sound_rate stop) is
           ∙ ap (placed (index_at stop env.sound_rate)) (at_rate env.sound_rate (resampled env.sound_rate meant) (resampled_rate env.sound_rate meant)))

@@ -1,5 +1,6 @@
 -- Evaluation as one trace of calls of a heap. What it means, what it leaves alone and how high its units stand follow from it.
-use Rattle.std.specs.Prelude.{◌≡◌, ◌⊎◌, ◌+◌, ◌≤◌, ℕ, zero, suc, List, [], ◌∷◌, ◌++◌, map, zip, get_or, if◌then◌else◌, Option, None, Some, ℤ, pos}
+use Rattle.std.specs.Prelude.{◌≡◌, ◌⊎◌, ◌+◌, ◌*◌, ◌≤◌, ℕ, zero, suc, Bool, true, false, List, [], ◌∷◌, ◌++◌, map, zip, get_or, if◌then◌else◌, Option, None, Some, ℤ, pos}
+use Rattle.std.specs.List.{range_with_len}
 use Rattle.ny_num.specs.Numbers.{sat_sample}
 use Rattle.ny_num.specs.Grid.{index_at}
 use Rattle.ny_num.specs.declared.rate.Rate.{Rate}
@@ -9,7 +10,7 @@ use Rattle.ny_num.specs.Sound as sounds
 use Rattle.ny_num.specs.Sound.{timing_of, placed_timing}
 use Rattle.ny_num.specs.Mix.{mix_timing}
 use Rattle.ny_kernels.specs.declared.operation.Op.{Op}
-use Rattle.ny_kernels.specs.declared.operation.Op.TheVariants.{Sub}
+use Rattle.ny_kernels.specs.declared.operation.Op.TheVariants.{Sub, Mul}
 use Rattle.ny_units.specs.Playing.{leaf_value}
 use Rattle.ny_units.specs.declared.leaves.Leaf.{Leaf}
 use Rattle.ny_warp.specs.declared.env.Env.{Env}
@@ -30,6 +31,7 @@ use Rattle.ny_check.specs.declared.value.Value.{Value}
 use Rattle.ny_check.specs.declared.value.Value.TheVariants.{Number, Sound}
 use Rattle.ny_check.specs.Code.{Code, node_at, function_at}
 use Rattle.ny_check.specs.Values.{scalars_of, scalar_of, number_of, test_of}
+use Rattle.ny_check.specs.Behaviours.{is_one, cue_timing}
 use Rattle.ny_check.specs.Families.{leaf_time, leaf_sound, effect_sound, changed_env}
 use Rattle.ny_check.specs.Meaning.{Bound, meaning}
 use Rattle.ny_timing.specs.Timings.{Timed, timed}
@@ -134,40 +136,61 @@ pub record OperationTurn (D : Trace) (code : Code) (op : Op) (a b : ExprId) (env
   pub second : ValueTurn D code env names b mid end right
   pub joined : JoinTurn op env.sound_rate left right end new s
 
+-- ---- parts
+
+-- a part of a mix: an expression, and what its names stand for
+abbrev pub Part : Type 0
+Part = ExprId × Names
+
+-- the parts of `sim` and `seq` see the same names
+abbrev pub parts_of : Names → List ExprId → List Part
+parts_of names es = map (λ e. (e, names)) es
+
+-- in part k of `simrep` and `seqrep` the name stands for the number k
+abbrev pub counted_names : Names → NameId → ℕ → Names
+counted_names names i k = names ++ (i, Number (pos (k * 1000000))) ∷ []
+
+-- their parts 0, 1, .. up to so many
+abbrev pub counted_parts : Names → NameId → ℕ → ExprId → List Part
+counted_parts names i count e = map (λ k. (e, counted_names names i k)) (range_with_len 0 count)
+
 -- ---- parts together
 
-abbrev pub PartsTurn : Trace → Env → Names → List ExprId → HeapState Branch → HeapState Branch → List Handle → Type 0
-PartsTurn D env names [] old new [] = old ≡ new
-PartsTurn D env names [] old new (s ∷ ss) = ⊥
-PartsTurn D env names (e ∷ es) old new [] = ⊥
-PartsTurn D env names (e ∷ es) old new (s ∷ ss) = (mid : HeapState Branch) × D e.0 env names old mid s × PartsTurn D env names es mid new ss
+abbrev pub PartsTurn : Trace → Env → List Part → HeapState Branch → HeapState Branch → List Handle → Type 0
+PartsTurn D env [] old new [] = old ≡ new
+PartsTurn D env [] old new (s ∷ ss) = ⊥
+PartsTurn D env (p ∷ ps) old new [] = ⊥
+PartsTurn D env (p ∷ ps) old new (s ∷ ss) = (mid : HeapState Branch) × D p.0.0 env p.1 old mid s × PartsTurn D env ps mid new ss
 
-pub record SimTurn (D : Trace) (es : List ExprId) (env : Env) (names : Names) (old new : HeapState Branch) (s : Handle) : Type 0 where
-  pub parts : List Handle
+-- sounds together: each is brought to the rate, and then one unit is made over all of them
+pub record MixedTurn (r : Rate) (parts : List Handle) (old new : HeapState Branch) (s : Handle) : Type 0 where
   pub brought : List Handle
   pub mid : HeapState Branch
-  pub end : HeapState Branch
-  pub each : PartsTurn D env names es old mid parts
-  pub brings : BringsEach mid end env.sound_rate parts brought
-  pub made : MakesUnit end new Mix (mix_timing env.sound_rate (map (λ s. s.timing) brought)) brought [] brought s
+  pub brings : BringsEach old mid r parts brought
+  pub made : MakesUnit mid new Mix (mix_timing r (map (λ s. s.timing) brought)) brought [] brought s
+
+pub record SimTurn (D : Trace) (ps : List Part) (env : Env) (old new : HeapState Branch) (s : Handle) : Type 0 where
+  pub parts : List Handle
+  pub mid : HeapState Branch
+  pub each : PartsTurn D env ps old mid parts
+  pub mixed : MixedTurn env.sound_rate parts mid new s
 
 -- ---- parts in turn
 
-pub record NextTurn (D : Trace) (env : Env) (names : Names) (stop : ℕ) (e : ExprId) (old new : HeapState Branch) (s : Handle) : Type 0 where
+pub record NextTurn (D : Trace) (env : Env) (stop : ℕ) (p : Part) (old new : HeapState Branch) (s : Handle) : Type 0 where
   pub part : Handle
   pub brought : Handle
   pub mid : HeapState Branch
   pub end : HeapState Branch
-  pub evaluates : D e.0 (from_stop env stop) names old mid part
+  pub evaluates : D p.0.0 (from_stop env stop) p.1 old mid part
   pub brings : Brings mid end env.sound_rate part brought
   pub places : Places end new (placed_timing (index_at stop env.sound_rate)) brought s
 
-abbrev pub NextsTurn : Trace → Env → Names → ℕ → List ExprId → HeapState Branch → HeapState Branch → List Handle → Type 0
-NextsTurn D env names stop [] old new [] = old ≡ new
-NextsTurn D env names stop [] old new (s ∷ ss) = ⊥
-NextsTurn D env names stop (e ∷ es) old new [] = ⊥
-NextsTurn D env names stop (e ∷ es) old new (s ∷ ss) =
-    (mid : HeapState Branch) × NextTurn D env names stop e old mid s × NextsTurn D env names s.timing.stop es mid new ss
+abbrev pub NextsTurn : Trace → Env → ℕ → List Part → HeapState Branch → HeapState Branch → List Handle → Type 0
+NextsTurn D env stop [] old new [] = old ≡ new
+NextsTurn D env stop [] old new (s ∷ ss) = ⊥
+NextsTurn D env stop (p ∷ ps) old new [] = ⊥
+NextsTurn D env stop (p ∷ ps) old new (s ∷ ss) = (mid : HeapState Branch) × NextTurn D env stop p old mid s × NextsTurn D env s.timing.stop ps mid new ss
 
 -- what a branch keeps of its free names: of one that is bound to a sound, one more reader
 abbrev pub KeepTurn : (ℕ → HeapState Branch → HeapState Branch → List (NameId × Value ℕ) → List Handle → Type 0) → Option (Value Handle) → NameId → ℕ → HeapState Branch → HeapState Branch → List (NameId × Value ℕ) → List Handle → Type 0
@@ -181,13 +204,13 @@ abbrev pub KeepsTurn : Names → List NameId → ℕ → HeapState Branch → He
 KeepsTurn names [] k old new kept ss = (kept ≡ []) × (ss ≡ []) × (old ≡ new)
 KeepsTurn names (x ∷ xs) k old new kept ss = KeepTurn (KeepsTurn names xs) (last_of (same_name x) names) x k old new kept ss
 
--- the branches that wait, in order
-abbrev pub WaitsTurn : Code → Env → Names → List ExprId → HeapState Branch → HeapState Branch → List (Branch × List Handle) → Type 0
-WaitsTurn code env names [] old new [] = old ≡ new
-WaitsTurn code env names [] old new (p ∷ ps) = ⊥
-WaitsTurn code env names (e ∷ es) old new [] = ⊥
-WaitsTurn code env names (e ∷ es) old new (p ∷ ps) =
-    (mid : HeapState Branch) × (p.0.expr ≡ e) × (p.0.env ≡ env) × KeepsTurn names (get_or code.free e.0 []) 0 old mid p.0.names p.1 × WaitsTurn code env names es mid new ps
+-- the branches that wait, in order. Each keeps its own names, also the one that a part is counted by
+abbrev pub WaitsTurn : Code → Env → List Part → HeapState Branch → HeapState Branch → List (Branch × List Handle) → Type 0
+WaitsTurn code env [] old new [] = old ≡ new
+WaitsTurn code env [] old new (q ∷ qs) = ⊥
+WaitsTurn code env (p ∷ ps) old new [] = ⊥
+WaitsTurn code env (p ∷ ps) old new (q ∷ qs) =
+    (mid : HeapState Branch) × (q.0.expr ≡ p.0) × (q.0.env ≡ env) × KeepsTurn p.1 (get_or code.free p.0.0 []) 0 old mid q.0.names q.1 × WaitsTurn code env ps mid new qs
 
 abbrev pub timed_in : Value Handle → Value Timing
 timed_in (Number v) = Number v
@@ -198,11 +221,11 @@ times_in [] = []
 times_in (b ∷ bs) = (b.0, timed_in b.1) ∷ times_in bs
 
 -- the parts whose places lie in the first block are evaluated, and the others wait. `t` is what the timings of names tell
-pub record SeqTurn (D : Trace) (code : Code) (e : ℕ) (es : List ExprId) (env : Env) (names : Names) (old new : HeapState Branch) (s : Handle) : Type 0 where
-  pub first : ExprId
-  pub now : List ExprId
-  pub later : List ExprId
-  pub all : es ≡ first ∷ (now ++ later)
+pub record SeqTurn (D : Trace) (code : Code) (e : ℕ) (ps : List Part) (env : Env) (names : Names) (old new : HeapState Branch) (s : Handle) : Type 0 where
+  pub first : Part
+  pub now : List Part
+  pub later : List Part
+  pub all : ps ≡ first ∷ (now ++ later)
   pub part : Handle
   pub brought : Handle
   pub others : List Handle
@@ -212,10 +235,10 @@ pub record SeqTurn (D : Trace) (code : Code) (e : ℕ) (es : List ExprId) (env :
   pub two : HeapState Branch
   pub three : HeapState Branch
   pub four : HeapState Branch
-  pub evaluates : D first.0 env names old one part
+  pub evaluates : D first.0.0 env first.1 old one part
   pub brings : Brings one two env.sound_rate part brought
-  pub nexts : NextsTurn D env names brought.timing.stop now two three others
-  pub waits : WaitsTurn code env names later three four waiting
+  pub nexts : NextsTurn D env brought.timing.stop now two three others
+  pub waits : WaitsTurn code env later three four waiting
   pub when : (bound : Bound) → timed bound ≡ times_in names → t ≡ timing_of (meaning code e env bound)
   -- no part that waits is due
   pub not_due : (waiting ≡ []) ⊎ (t.start + four.block ≤ index_at (last_stop_of 0 (brought ∷ others)) t.rate)
@@ -238,6 +261,24 @@ pub record EffectTurn (D : Trace) (w : Effect) (e : ExprId) (numbers : List ℤ)
   pub is : (m : sounds.Sound) → m.rate ≡ part.timing.rate → made_with unit m ≡ effect_sound w numbers m
   pub made : MakesUnit mid new (Made unit) part.timing (part ∷ []) [] (part ∷ []) s
 
+-- at another loudness than 1 a product, at the sound's own rate
+abbrev pub LouderTurn : Bool → ℤ → Handle → HeapState Branch → HeapState Branch → Handle → Type 0
+LouderTurn true loud a old new s = (old ≡ new) × (a ≡ s)
+LouderTurn false loud a old new s = MakesUnit old new (Made (Pair Mul (Some (sat_sample loud)) None)) a.timing (a ∷ []) [] (a ∷ []) s
+
+-- a sound, heard from local time 0 on and at the loudness
+pub record CuedTurn (env : Env) (a : Handle) (old new : HeapState Branch) (s : Handle) : Type 0 where
+  pub later : Handle
+  pub mid : HeapState Branch
+  pub places : Places old mid (cue_timing env) a later
+  pub louder : LouderTurn (is_one env.loud) env.loud later mid new s
+
+pub record CueTurn (D : Trace) (e : ExprId) (env : Env) (names : Names) (old new : HeapState Branch) (s : Handle) : Type 0 where
+  pub part : Handle
+  pub mid : HeapState Branch
+  pub evaluates : D e.0 env names old mid part
+  pub cued : CuedTurn env part mid new s
+
 -- a number or a sound with the other sign: 0 minus it
 pub record SignTurn (D : Trace) (code : Code) (a : ExprId) (env : Env) (names : Names) (old new : HeapState Branch) (s : Handle) : Type 0 where
   pub value : Value Handle
@@ -248,16 +289,15 @@ pub record SignTurn (D : Trace) (code : Code) (a : ExprId) (env : Env) (names : 
 -- ---- expressions
 
 -- parts together, or one after the other
-abbrev pub MixTurn : Trace → Code → ℕ → Order → List ExprId → Env → Names → HeapState Branch → HeapState Branch → Handle → Type 0
-MixTurn D code e order.Together es env names old new s = SimTurn D es env names old new s
-MixTurn D code e order.InTurn es env names old new s = SeqTurn D code e es env names old new s
+abbrev pub MixTurn : Trace → Code → ℕ → Order → List Part → Env → Names → HeapState Branch → HeapState Branch → Handle → Type 0
+MixTurn D code e order.Together ps env names old new s = SimTurn D ps env old new s
+MixTurn D code e order.InTurn ps env names old new s = SeqTurn D code e ps env names old new s
 
 -- the numbers that expressions are
 abbrev pub numbers_in : Code → Names → List ExprId → List ℤ
 numbers_in code names es = map (λ e. number_of code e (scalars_of names)) es
 
--- What evaluation does at a node, where `D` evaluates the nodes before it. Of `cue` and of counted parts nothing is said yet. Numbers,
--- tests and vectors are no sounds: they are silent.
+-- What evaluation does at a node, where `D` evaluates the nodes before it. Numbers, tests and vectors are no sounds: they are silent.
 abbrev pub NodeTurn : Trace → Code → ℕ → Node → Env → Names → HeapState Branch → HeapState Branch → Handle → Type 0
 NodeTurn D code e (node.Local x) env names old new s = NameTurn env.sound_rate (last_of (same_name x) names) old new s
 NodeTurn D code e (node.Call f es) env names old new s = CallTurn D code (function_at code f.0).params (function_at code f.0).body.0 es env names old new s
@@ -267,9 +307,9 @@ NodeTurn D code e (node.Pair op a b) env names old new s = OperationTurn D code 
 NodeTurn D code e (node.Neg a) env names old new s = SignTurn D code a env names old new s
 NodeTurn D code e (node.Leaf w es) env names old new s = LeafTurn w env (numbers_in code names es) old new s
 NodeTurn D code e (node.Effect w a es) env names old new s = EffectTurn D w a (numbers_in code names es) env names old new s
-NodeTurn D code e (node.Cue a) env names old new s = ⊥
-NodeTurn D code e (node.Mix o es) env names old new s = MixTurn D code e o es env names old new s
-NodeTurn D code e (node.Repeat o x k a) env names old new s = ⊥
+NodeTurn D code e (node.Cue a) env names old new s = CueTurn D a env names old new s
+NodeTurn D code e (node.Mix o es) env names old new s = MixTurn D code e o (parts_of names es) env names old new s
+NodeTurn D code e (node.Repeat o i k a) env names old new s = MixTurn D code e o (counted_parts names i k a) env names old new s
 NodeTurn D code e (node.Change c a) env names old new s = D a.0 (changed_env c (λ k. number_of code k (scalars_of names)) env) names old new s
 NodeTurn D code e _ env names old new s = IsSilent old new env.sound_rate s
 

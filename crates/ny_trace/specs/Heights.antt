@@ -12,7 +12,7 @@ use Rattle.ny_heap.specs.Reach.{HeapLaws}
 use Rattle.ny_hands.specs.Ranks.{IsRank}
 use Rattle.ny_hands.specs.declared.branch.Branch.{Branch}
 use Rattle.ny_hands.specs.Frames.{Names, sounds_among}
-use Rattle.ny_trace.specs.Evaluates.{Trace}
+use Rattle.ny_trace.specs.Evaluates.{Trace, Part}
 use Rattle.ny_hands.specs.Hands.{AreNamed}
 
 -- ---- a bound of the text alone, through calls
@@ -20,6 +20,11 @@ use Rattle.ny_hands.specs.Hands.{AreNamed}
 abbrev pub greatest : (ℕ → ℕ) → List ExprId → ℕ
 greatest tall [] = 0
 greatest tall (e ∷ es) = max (tall e.0) (greatest tall es)
+
+-- of parts
+abbrev pub tallest : (ℕ → ℕ) → List Part → ℕ
+tallest tall [] = 0
+tallest tall (p ∷ ps) = max (tall p.0.0) (tallest tall ps)
 
 abbrev pub one_on_another : (ℕ → ℕ) → List (NameId × ExprId) → ℕ
 one_on_another tall [] = 0
@@ -35,7 +40,9 @@ tall_node code (node.Pair op a b) tall = max (tall a.0) (tall b.0) + 2
 tall_node code (node.Neg a) tall = tall a.0 + 2
 tall_node code (node.Leaf g es) tall = 1
 tall_node code (node.Effect fx a es) tall = tall a.0 + 1
+tall_node code (node.Cue a) tall = tall a.0 + 1
 tall_node code (node.Mix o es) tall = greatest tall es + 2
+tall_node code (node.Repeat o i k a) tall = tall a.0 + 2
 tall_node code (node.Change c a) tall = tall a.0
 tall_node code _ tall = 0
 

@@ -7,6 +7,7 @@ use Rattle.ny_resolve.specs.declared.term.NameId.{NameId}
 use Rattle.ny_resolve.specs.declared.builtin.Order.TheVariants.{InTurn}
 use Rattle.ny_resolve.specs.Keys.{same_name}
 use Rattle.ny_check.specs.Code.{Code, node_at as node_in}
+use Rattle.ny_check.specs.declared.node.Node.{Node}
 use Rattle.ny_check.specs.declared.node.Node.TheVariants as node
 use Rattle.ny_check.specs.declared.node.ExprId.{ExprId}
 use Rattle.ny_check.specs.declared.value.Value.{Value}
@@ -36,9 +37,15 @@ KeepFree code [] = Unit {0}
 KeepFree code (e ∷ es) =
     ((env : Env) (bound : Bound) → meaning code e.0 env (picked (get_or code.free e.0 []) bound) ≡ meaning code e.0 env bound) × KeepFree code es
 
--- the same of the parts of each sequence
+-- the expressions whose names are kept by parts that wait: the parts of a `seq`, and what a `seqrep` counts
+abbrev pub in_turn : Node → List ExprId
+in_turn (node.Mix InTurn es) = es
+in_turn (node.Repeat InTurn i k a) = a ∷ []
+in_turn _ = []
+
+-- the same of those of each node
 abbrev pub KeepsFree : Code → Type 0
-KeepsFree code = (e : ℕ) (es : List ExprId) → node_in code e ≡ node.Mix InTurn es → KeepFree code es
+KeepsFree code = (e : ℕ) → KeepFree code (in_turn (node_in code e))
 
 -- ---- evaluation
 
