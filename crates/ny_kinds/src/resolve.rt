@@ -1,6 +1,6 @@
 ghost use Rattle.std.specs.Prelude.{◌≡◌, ◌<◌, ◌≤◌, ◌^◌, ℕ, [], length, All, IfOk, IfErr, OnOk, vec_len};
 ghost use Rattle.ny_kinds.specs.Kinds.{kind_of, scope_of};
-ghost use Rattle.ny_kinds.specs.Table.{IsRight, AreBefore};
+ghost use Rattle.ny_kinds.specs.Table.{IsRight, IsReason, AreBefore};
 ghost use Rattle.ny_kinds.specs.Whole.{IsBound};
 
 use crate::judging::{judge, judge_body};
@@ -65,6 +65,29 @@ fn resolve(
     Ok(())
 }
 
+/// The kind of an expression that sees no name, or why it is not known yet.
+fn judge_alone(
+    alloc: Global,
+    ds: &[Declared],
+    table: &mut Table,
+    most: Option<u64>,
+    here: u32,
+    e: &Part,
+) -> Result<Found, Stop>
+    requires here { here ≤ length ds.now }
+    requires known { All (IsRight ds.now) table.old.entries.items }
+    ensures found { IfOk result (λ f. f ≡ kind_of e.now (scope_of [] ds.now here)) }
+    ensures missing { IfErr result (IsReason most here) }
+    ensures known { All (IsRight ds.now) table.new.entries.items }
+    ensures kept { vec_len table.old.entries ≤ vec_len table.new.entries }
+{
+    let limits = Limits {
+        levels: LEVELS,
+        most,
+    };
+    judge(alloc, ds, table, limits, here, e, &mut Scope::new(alloc))
+}
+
 /// The kind of an expression after the declarations before this one, and the least place of a refusal in it and in the
 /// bodies that it reaches.
 pub(crate) fn root_kind(
@@ -83,11 +106,7 @@ pub(crate) fn root_kind(
     ensures bound { IfErr result (IsBound most) }
 {
     loop {
-        let limits = Limits {
-            levels: LEVELS,
-            most,
-        };
-        match judge(alloc, ds, table, limits, here, e, &mut Scope::new(alloc)) {
+        match judge_alone(alloc, ds, table, most, here, e) {
             Ok(found) => return Ok(found),
             Err(Stop::Missing(earlier, callers)) => {
                 resolve(alloc, ds, table, most, earlier, callers)?
