@@ -14,7 +14,7 @@ use ny_check::{Op, Scalar, Value};
 use ny_num::{Fix, Rate, Ticks, Timing};
 
 /// What an expression is: a number, a test, or a sound that is heard then.
-#[derive(Clone, Copy, Debug)]
+#[derive(Clone, Copy)]
 pub(crate) enum Found {
     Number(Fix),
     Test(bool),
