@@ -1,7 +1,7 @@
 use ny_num::Sample;
 
 /// A corner of an envelope: its place `t` in samples from the sound's start, and its level there.
-#[derive(Clone, Copy, Debug)]
+#[derive(Clone, Copy)]
 pub struct Knot {
     pub t: u32,
     pub level: Sample,
