@@ -10,7 +10,7 @@ use crate::host::{Failed, Host};
 use std::alloc::{AllocError, Global};
 
 /// The numbers of the calls that are to fail, by kind. The first call of a kind has the number 1.
-#[derive(Debug, Drop)]
+#[derive(Drop)]
 pub struct Fails {
     pub opens: Vec<u64>,
     pub reads: Vec<u64>,
@@ -20,7 +20,7 @@ pub struct Fails {
 }
 
 /// The calls of one kind: how many there were, and which are to fail.
-#[derive(Debug, Drop)]
+#[derive(Drop)]
 struct Schedule {
     made: u64,
     failing: Vec<u64>,
@@ -47,7 +47,7 @@ impl Schedule {
 }
 
 /// Where the open input stands: the place of its file, and how many of its bytes were read.
-#[derive(Clone, Copy, Debug)]
+#[derive(Clone, Copy)]
 pub(crate) struct Place {
     pub(crate) file: usize,
     pub(crate) at: usize,
@@ -60,7 +60,7 @@ const INPUT: u32 = 0;
 const OUTPUT: u32 = 1;
 
 /// A host in memory, which tells all. Chosen calls of it fail.
-#[derive(Debug, Drop)]
+#[derive(Drop)]
 pub struct MemHost {
     files: Vec<(String, Vec<u8>)>,
     step: usize,
