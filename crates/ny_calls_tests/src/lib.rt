@@ -5,8 +5,6 @@
 #[cfg(test)]
 mod lists;
 #[cfg(test)]
-mod long_texts;
-#[cfg(test)]
 mod maps;
 #[cfg(test)]
 mod names;

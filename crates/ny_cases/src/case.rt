@@ -9,7 +9,7 @@ pub const INPUT: &str = "in.sal";
 const BEFORE_TEXT: &[u8] = b" << ";
 
 /// A line of a list: the words of a command and, where it has one, the text of its input.
-#[derive(Debug, Drop)]
+#[derive(Drop)]
 pub struct Case<'a> {
     line: &'a [u8],
     words: Vec<String>,

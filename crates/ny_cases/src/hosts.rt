@@ -14,7 +14,7 @@ use std::{fmt, io};
 const ROOM: usize = 1_048_576;
 
 /// A kind of call of a host.
-#[derive(Clone, Copy, Debug, PartialEq, Eq)]
+#[derive(Clone, Copy, PartialEq, Eq)]
 enum Call {
     Open,
     Read,
@@ -36,7 +36,7 @@ impl fmt::Display for Call {
 }
 
 /// The call that is to fail: its kind, and its number among those of its kind, from 1.
-#[derive(Clone, Copy, Debug)]
+#[derive(Clone, Copy)]
 struct Failing {
     call: Call,
     number: u64,
