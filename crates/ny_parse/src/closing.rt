@@ -376,7 +376,7 @@ impl Reader {
         ensures { Goes result token.from self.new (named_next token.kind token name self.old.stack self.old.decls) }
     {
         match token.kind {
-            TokenKind::Sign(Mark::Open) => self.begin_with(token, State::CallOpen { name }),
+            TokenKind::Sign(Mark::Open) => self.begin_call(token, name),
             _ => self.after_whole(alloc, token, named(name)),
         }
     }

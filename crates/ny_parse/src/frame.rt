@@ -2,7 +2,7 @@ use ny_syntax::{Bind, Expr, Name, Param, Token};
 use sqlite_items::Items;
 
 /// A name and its place.
-#[derive(Debug, Drop)]
+#[derive(Drop)]
 pub struct Label {
     pub at: u32,
     pub name: Name,
@@ -10,7 +10,7 @@ pub struct Label {
 
 /// An expression that was read, how many constructs may still enclose it within the greatest height, and
 /// how tightly its outermost part binds (`docs/LANGUAGE.md`, "Grammar").
-#[derive(Debug, Drop)]
+#[derive(Drop)]
 pub struct Measured {
     pub expr: Expr,
     pub spare: u32,
@@ -18,7 +18,7 @@ pub struct Measured {
 }
 
 /// What has begun and goes on after the expression that is read next.
-#[derive(Debug, Drop)]
+#[derive(Drop)]
 pub enum Frame {
     /// `define variable NAME =`
     Variable {

@@ -1,5 +1,6 @@
 ghost use Rattle.std.specs.Prelude.{◌≡◌, ◌≤◌, length, min, IfOk};
 ghost use Rattle.ny_syntax.specs.Grammar.{name_of, param_of};
+ghost use Rattle.ny_syntax.specs.declared.tree.Form.TheVariants as forms;
 ghost use Rattle.ny_parse.specs.Nodes.{label_of, number_of, named_of, grouped_of, prefixed_of, binary_of, call_of, conditional_of, block_of};
 
 use crate::frame::{Label, Measured};
@@ -141,6 +142,16 @@ pub fn call(name: Label, arguments: Items<Expr>, spare: u32) -> Measured
     operand(name.at, Form::Call(name.name, arguments), around)
 }
 
+/// The form of an `#if` of these parts.
+fn choice(alloc: Global, test: Expr, chosen: Expr, otherwise: Expr) -> Result<Form, AllocError>
+    ensures { IfOk result (λ form. form ≡ forms.If test chosen otherwise) }
+{
+    let a = Boxed::new(alloc, test)?;
+    let b = Boxed::new(alloc, chosen)?;
+    let c = Boxed::new(alloc, otherwise)?;
+    Ok(Form::If(a, b, c))
+}
+
 pub fn conditional(
     alloc: Global,
     start: Token,
@@ -151,10 +162,8 @@ pub fn conditional(
     ensures { IfOk result (λ x. x ≡ conditional_of start test chosen otherwise) }
 {
     let spare = lesser(test.spare, lesser(chosen.spare, otherwise.spare)).saturating_sub(1);
-    let a = Boxed::new(alloc, test.expr)?;
-    let b = Boxed::new(alloc, chosen.expr)?;
-    let c = Boxed::new(alloc, otherwise.expr)?;
-    Ok(operand(start.from, Form::If(a, b, c), spare))
+    let form = choice(alloc, test.expr, chosen.expr, otherwise.expr)?;
+    Ok(operand(start.from, form, spare))
 }
 
 /// A block, with how many constructs may still enclose its highest bind.

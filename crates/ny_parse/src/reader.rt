@@ -15,7 +15,7 @@ use sqlite_items::Items;
 use std::alloc::Global;
 
 /// What has begun and is not finished, and the declarations before it.
-#[derive(Debug, Drop)]
+#[derive(Drop)]
 pub struct Reader {
     pub stack: Stack<Frame>,
     pub decls: Items<Decl>,

@@ -3,7 +3,7 @@ use ny_syntax::{Bind, Param, Token};
 use sqlite_items::Items;
 
 /// What was read last, and so what may come next.
-#[derive(Debug, Drop)]
+#[derive(Drop)]
 pub enum State {
     /// Nothing, or a whole declaration.
     Between,
