@@ -14,7 +14,7 @@ const OUTPUT: u32 = 1;
 ///
 /// A name that is not there is an empty file. What is written and printed is dropped, so the host
 /// tells its files and what is left of the open input, and no more. No call takes memory.
-#[derive(Debug, Drop)]
+#[derive(Drop)]
 pub struct NeverFail {
     files: Vec<(String, Vec<u8>)>,
     step: usize,
