@@ -14,7 +14,7 @@ use Rattle.ny_list.specs.Laws.{StoreLaws}
 use Rattle.ny_num.specs.declared.timing.Timing.{Timing}
 use Rattle.std.specs.Vec.{with_item}
 use Rattle.ny_list.proofs.IndexLemmas.{same_some, none_some, sums_agree, tab_get}
-use Rattle.ny_units.specs.Inputs.{reader_of, source_of, start_of, IsReader}
+use Rattle.ny_units.specs.Inputs.{reader_of, source_of, start_of}
 use Rattle.ny_heap.specs.declared.sound.Sound.{Sound}
 use Rattle.ny_heap.specs.declared.table.Unit.{Unit as UnitData}
 use Rattle.ny_heap.specs.declared.table.Table.{Table}
@@ -22,7 +22,9 @@ use Rattle.ny_heap.specs.declared.task.Task.{Task}
 use Rattle.ny_heap.specs.declared.work.Work.{Work}
 use Rattle.ny_heap.specs.Steps.{first_memory}
 use Rattle.ny_heap.specs.Work.{kind_of, inputs_in, source_at, cursor_at, memory_in, HasGiven}
-use Rattle.ny_heap.specs.Tasks.{IsTask, BeginsWork, input_of_sound, HasSides, BeginsAt, BringsFrom, Hears}
+use Rattle.ny_units.specs.declared.input.Source.{Source}
+use Rattle.ny_heap.specs.declared.task.Task.TheVariants.{Made as MadeTask, Mix as MixTask, Channel as ChannelTask}
+use Rattle.ny_heap.specs.Tasks.{IsTask, IsOver, ReadsSound, BeginsWork, input_of_sound, HasSides, BeginsAt, BringsFrom, Hears}
 use Rattle.ny_heap.specs.Making.{HasRoom, Places, Adds, ShowsFirst, ShowFirst}
 use Rattle.ny_heap.specs.Heap.{Kind, blocks_of, taken_after}
 use Rattle.ny_heap.specs.Table.{unit_at, timing_at, own_in, own_of, held_in, len_of, mark_in, stands_at, rest_of, IsTable, IsUnit, IsInput, IsRead}
@@ -54,6 +56,25 @@ placed t store n m c x room begins laws number end =
       block = refl;
     }
 
+source_reads : (s : Sound) (o : Option CursorState) → s.reader ≡ o → reader_of (source_of (input_of_sound (record s { reader = o }))) ≡ option_map (λ (c : CursorState). record c { visible = s.timing.len }) o
+source_reads s None e = refl
+source_reads s (Some c) e = refl
+
+pub source_starts : (s : Sound) (d : CursorState) → s.reader ≡ Some d → start_of (source_of (input_of_sound s)) ≡ s.timing.start
+source_starts s d e = ap (λ (o : Option CursorState). start_of (source_of (input_of_sound (record s { reader = o })))) e
+
+-- a sound as an input reads what the sound does
+input_reads : (a : Source) (s : Sound) → a ≡ source_of (input_of_sound s) → ReadsSound a s
+input_reads a s is = record {
+  reads = ap reader_of is ∙ source_reads s s.reader refl;
+  starts = λ some. let c = some_is s.reader some in ap start_of is ∙ source_starts s c.0 c.1;
+}
+
+sound_read : (task : Task) (a : Source) (s : Sound) → IsOver task a s → ReadsSound a s
+sound_read (MadeTask make) a s is = input_reads a s is
+sound_read MixTask a s is = is
+sound_read ChannelTask a s is = input_reads a s is
+
 -- and then it is one that begins a task's work over these sounds
 pub adds_of : (old new : Table) (n : ℕ) (work : Work) (timing : Timing) (inputs : List Timing) (task : Task) (sounds : List Sound) (p : Places old new n work timing inputs)
     → BeginsWork task sounds timing work → IsTask task timing.len → inputs ≡ map (λ (s : Sound). s.timing) sounds → 0 < timing.len → timing.start + timing.len < 2 ^ 32
@@ -80,16 +101,12 @@ adds_of old new n work timing inputs task sounds p b is_task heard some early =
       hears = subst (λ (q : Work × Timing × List Timing). Hears q.0 q.1 q.2) (λ i. (does i, at i, (sym heard ∙ sym p.reads) i)) b.hears;
       memory = sym (ap memory_in does) ∙ b.memory ∙ ap (λ k. first_memory k sounds) (sym b.kind ∙ ap kind_of does);
       given = subst (λ (q : Work × Timing). HasGiven q.0 q.1.len 0) (λ i. (does i, at i)) (b.given timing.len is_task);
-      sources = λ i s inside is. sym (ap (λ w. source_at w i) does) ∙ b.sources i s inside is;
+      sources = λ i s inside is. subst (λ w. ReadsSound (source_at w i) s) does (sound_read task (source_at work i) s (b.sources i s inside is));
     }
 
 -- where an input reads: where its sound did
 abbrev pub reads_as : Sound → Option CursorState
 reads_as s = option_map (λ (c : CursorState). record c { visible = s.timing.len }) s.reader
-
-source_reads : (s : Sound) (o : Option CursorState) → s.reader ≡ o → reader_of (source_of (input_of_sound (record s { reader = o }))) ≡ option_map (λ (c : CursorState). record c { visible = s.timing.len }) o
-source_reads s None e = refl
-source_reads s (Some c) e = refl
 
 length_of : (ss : List Sound) → length (cursors_in ss) ≡ length ss
 length_of [] = refl
@@ -104,13 +121,10 @@ sound_at [] k h = absurd (omega (arith, h))
 sound_at (s ∷ ss) zero h = (s, refl, refl)
 sound_at (s ∷ ss) (suc k) h = let r = sound_at ss k (omega (arith, h)) in (r.0, r.1, r.2)
 
-pub source_starts : (s : Sound) (d : CursorState) → s.reader ≡ Some d → start_of (source_of (input_of_sound s)) ≡ s.timing.start
-source_starts s d e = ap (λ (o : Option CursorState). start_of (source_of (input_of_sound (record s { reader = o })))) e
-
--- a sound that is an input with a list has its cursor
-reads_some : (s : Sound) (o : Option CursorState) → s.reader ≡ o → IsReader (source_of (input_of_sound (record s { reader = o }))) → reader_of (source_of (input_of_sound (record s { reader = o }))) ≡ None → ⊥
-reads_some s None e reader none = reader
-reads_some s (Some c) e reader none = absurd cc
+-- an input without a cursor is over a sound that has none
+reads_none : (s : Sound) (o : Option CursorState) → s.reader ≡ o → option_map (λ (c : CursorState). record c { visible = s.timing.len }) o ≡ None → s.reader ≡ None
+reads_none s None e none = e
+reads_none s (Some c) e none = absurd (none_some (sym none))
 
 -- a unit that has given nothing has taken nothing
 pub taken_none : (block : ℕ) (kind : Kind) (t input : Timing) → taken_after block kind t input 0 ≡ 0
@@ -145,7 +159,7 @@ module _ (old new : Table) (n : ℕ) (x : UnitData) (sounds : List Sound) (a : A
 
   -- input i stands where its sound does
   pub cursor_is : (i : ℕ) (s : Sound) → i < length sounds → s ≡ get_or sounds i s → cursor_at x.work i ≡ reads_as s
-  cursor_is i s inside is = ap reader_of (a.sources i s inside is) ∙ source_reads s s.reader refl
+  cursor_is i s inside is = (a.sources i s inside is).reads
 
   stands_same : (block len v j : ℕ) (s : Sound) (o : Option CursorState) → stands_at block len v j (option_map (λ (c : CursorState). record c { visible = s.timing.len }) o) ≡ stands_at block len v j o
   stands_same block len v j s None = refl
@@ -288,8 +302,14 @@ module _ (old new : Table) (n : ℕ) (x : UnitData) (sounds : List Sound) (a : A
   timing_is i s inside is = ap (λ ts. get_or ts i x.timing) a.inputs ∙ get_or-map (λ (q : Sound). q.timing) sounds i s x.timing inside ∙ ap (λ (q : Sound). q.timing) (sym is)
 
   module _ (shows : ShowFirst old sounds) where
+    -- what each sound shows
+    shown_at : (i : ℕ) (s : Sound) → i < length sounds → s ≡ get_or sounds i s → ForSome s.reader (ShowsFirst old s) × (s.reader ≡ None → s.timing.len ≡ 0)
+    shown_at i s inside is =
+        subst (λ (q : Sound). ForSome q.reader (ShowsFirst old q) × (q.reader ≡ None → q.timing.len ≡ 0)) (sym is)
+        (All-get_or (λ (q : Sound). ForSome q.reader (ShowsFirst old q) × (q.reader ≡ None → q.timing.len ≡ 0)) sounds i s inside shows)
+
     shown : (i : ℕ) (s : Sound) (d : CursorState) → i < length sounds → s ≡ get_or sounds i s → s.reader ≡ Some d → ShowsFirst old s d
-    shown i s d inside is reads = subst (λ (q : Sound). ForSome q.reader (ShowsFirst old q)) (sym is) (All-get_or (λ (q : Sound). ForSome q.reader (ShowsFirst old q)) sounds i s inside shows) d reads
+    shown i s d inside is reads = (shown_at i s inside is).0 d reads
 
     -- an input of the new unit stands at its list's beginning, and has something left to read
     pub input_new : (i : ℕ) (c : CursorState) → i < length sounds → cursor_at x.work i ≡ Some c → (l : ListState) × (list_at old.store c.list ≡ Some l) × (list_at new.store c.list ≡ Some l) × IsInput new x i c l × (c.place ≡ 0) × (0 < c.visible)
@@ -306,7 +326,7 @@ module _ (old new : Table) (n : ℕ) (x : UnitData) (sounds : List Sound) (a : A
           l.1,
           list_else c.list apart ∙ l.1,
           record {
-            starts = ap start_of (a.sources i r.0 inside r.2) ∙ source_starts r.0 r.1 r.3 ∙ ap (λ (t : Timing). t.start) (sym heard);
+            starts = (a.sources i r.0 inside r.2).starts (is_some_of _ r.1 r.3) ∙ ap (λ (t : Timing). t.start) (sym heard);
             sees = sees ∙ ap (λ (t : Timing). t.len) (sym heard);
             visible = omega (arith, sees, len, f.visible);
             computed = omega (arith, place);
@@ -425,10 +445,8 @@ module _ (old new : Table) (n : ℕ) (x : UnitData) (sounds : List Sound) (a : A
       | inl e ↦
           let within : i < length sounds = omega (arith, inside, ap (λ (z : UnitData). length z.inputs.items) e.1, ap length a.inputs, timed sounds) in
           let s = sound_at sounds i within in
-          let is = a.sources i s.0 within s.1 in
-          absurd (reads_some s.0 s.0.reader refl
-          (subst IsReader is (subst (λ (z : UnitData). IsReader (source_at z.work i)) e.1 reader))
-          (sym (ap reader_of is) ∙ ap (λ (z : UnitData). cursor_at z.work i) (sym e.1) ∙ none))
+          let reads : s.0.reader ≡ None = reads_none s.0 s.0.reader refl (sym (cursor_is i s.0 within s.1) ∙ ap (λ (z : UnitData). cursor_at z.work i) (sym e.1) ∙ none) in
+          omega (arith, ap (λ (z : UnitData). (timing_at z i).len) e.1, ap (λ (t : Timing). t.len) (timing_is i s.0 within s.1), (shown_at i s.0 within s.1).1 reads)
       | inr e ↦
           subst (λ k. (timing_at y i).len ≤ k) (taken_else v i y e.0)
           (exhausted v i y e.1 inside reader none (subst (λ b. filled_in old.store v < blocks_of b y.timing.len) a.block (subst (λ k. k < blocks_of new.block y.timing.len) (filled_else v e.0) still)))

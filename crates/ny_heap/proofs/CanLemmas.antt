@@ -19,7 +19,7 @@ use Rattle.ny_heap.specs.declared.make.Make.TheVariants.{Resample}
 use Rattle.ny_heap.specs.declared.table.Unit.{Unit as UnitData}
 use Rattle.ny_heap.specs.declared.table.Table.{Table}
 use Rattle.ny_heap.specs.declared.work.Work.{Work}
-use Rattle.ny_heap.specs.declared.work.Work.TheVariants.{Leaf as LeafWork, Pair as PairWork, Abs as AbsWork, Resample as ResampleWork, Filter as FilterWork, Channel as ChannelWork}
+use Rattle.ny_heap.specs.declared.work.Work.TheVariants.{Leaf as LeafWork, Pair as PairWork, Abs as AbsWork, Resample as ResampleWork, Filter as FilterWork, Mix as MixWork, Channel as ChannelWork}
 use Rattle.ny_heap.specs.Heap.{Made, next_taken, taken_after, blocks_of, stands_in}
 use Rattle.ny_heap.specs.Work.{kind_of, inputs_in, source_at, cursor_at, CanWork, HasGiven, ShowsAll, work_value, MovesOn, Recalls}
 use Rattle.ny_heap.specs.Tasks.{IsSide, HasSides, BeginsAt, BringsFrom, Hears}
@@ -293,6 +293,10 @@ module _ (t : Table) (u : ℕ) (f : CanFill t u) where
       read 0 (subst (λ w. 0 < inputs_in w) (sym e) (omega arith)) (λ n. ap (λ w. next_taken (kind_of w) x.timing (timing_at x 0) n) e) s (ap (λ w. source_at w 0) e) (start_of s) (subst (λ w. BeginsAt w x.timing) e unit.begins)
   by_work (ResampleWork r) e = resample r e
   by_work (FilterWork g start) e = filter g start e
+  by_work (MixWork m) e =
+      let begins : m.timing.start ≡ x.timing.start = ap (λ (k : Timing). k.start) (subst (λ w. BeginsAt w x.timing) e unit.begins) in
+      λ i c inside is.
+      read i (subst (λ w. i < inputs_in w) (sym e) inside) (λ n. ap (λ w. next_taken (kind_of w) x.timing (timing_at x i) n) e) (source_at (MixWork m) i) (ap (λ w. source_at w i) e) m.timing.start begins c is
   by_work (ChannelWork p) e =
       read 0 (subst (λ w. 0 < inputs_in w) (sym e) (omega arith)) (λ n. ap (λ w. next_taken (kind_of w) x.timing (timing_at x 0) n) e) p.input (ap (λ w. source_at w 0) e) p.start (subst (λ w. BeginsAt w x.timing) e unit.begins)
 

@@ -17,7 +17,7 @@ use Rattle.ny_heap.specs.declared.table.Table.{Table}
 use Rattle.ny_heap.specs.declared.work.Work.{Work}
 use Rattle.ny_heap.specs.declared.work.Work.TheVariants.{Filter as FilterWork}
 use Rattle.ny_heap.specs.Heap.{Reader, HeapState, block_at, blocks_of, next_taken, taken_after}
-use Rattle.ny_heap.specs.Means.{Parts, Whole, Means, NodeMeans, KeepsMeaning, input_sound, heard, unit_value, all_inputs, nth_block}
+use Rattle.ny_heap.specs.Means.{Parts, Whole, Means, NodeMeans, KeepsMeaning, input_sound, heard, sum_heard, unit_value, all_inputs, nth_block}
 use Rattle.ny_heap.specs.Tasks.{Hears}
 use Rattle.ny_heap.specs.Work.{kind_of, inputs_in, cursor_at, memory_in, HasGiven, MovesOn, ShowsAll, work_value}
 use Rattle.ny_heap.specs.Table.{unit_at, input_of, readers_of, timing_at, computed_in, computed_next_in, IsUnit}
@@ -28,6 +28,7 @@ use Rattle.ny_heap.proofs.CountLemmas.{some_is, is_some_of}
 use Rattle.ny_heap.proofs.NeedLemmas.{taken_at}
 use Rattle.ny_heap.proofs.ViewLemmas.{node_of_unit, unit_of_node, block_at-state, filled_is}
 use Rattle.ny_heap.proofs.MovesLemmas.{same_source, sides_on, begins_on, brings_on, hears_on, given_on}
+use Rattle.ny_heap.proofs.PartLemmas.{AddNothing}
 use Rattle.ny_heap.proofs.ValueLemmas.{value_on, value_is, AreHeardSo}
 use Rattle.ny_heap.proofs.MeansLemmas.{moved_heard, moved_sound, SameInputs, value_by}
 use Rattle.ny_heap.proofs.CanLemmas as can
@@ -159,11 +160,19 @@ module _ (B : Type 0) (old new : Table) (u : ℕ) (out : List ℤ) (f : CanFill 
         let so = heard_so k i (omega (arith, inside, Rattle.ny_heap.proofs.MovesLemmas.same_inputs was.work p.work (computed_next_in old u) p.moves)) c (ap Rattle.ny_units.specs.Inputs.reader_of (sym source) ∙ is) in
         (ap start_of source ∙ so.0, so.1)
 
+    -- no part waits, and none is owed
+    quiet : (k : ℕ) → AddNothing rest k
+    quiet k v is = ap (λ ss. sum_heard v (map Some ss ++ []) k) (nothing (w.owed u) mine.owed)
+      where
+        nothing : (ss : List sounds.Sound) → length ss ≡ 0 → ss ≡ []
+        nothing [] none = refl
+        nothing (s ∷ ss) none = absurd (omega (arith, none))
+
     -- what it is to give is what its work computes
     value_was : (k : ℕ) → unit_value (kind_of was.work) was.timing (memory_in was.work) (was.timing.start + done) (map (input_sound w.samples) (readers_of was) ++ rest) (was.timing.start + k) ≡ work_value was.work w.samples done k
     value_was k =
         ap (λ ss. unit_value (kind_of was.work) was.timing (memory_in was.work) (was.timing.start + done) ss (was.timing.start + k)) (all_sounds was was.work unit.count)
-        ∙ value_is was.timing was.inputs.items w.samples was.timing.len done k rest was.work unit.sides unit.begins given (heard_so k)
+        ∙ value_is was.timing was.inputs.items w.samples was.timing.len done k rest was.work (λ mix. quiet (was.timing.start + k)) unit.sides unit.begins given (heard_so k)
 
     given_samples : (k : ℕ) → done ≤ k → k < was.timing.len → get_or (w.samples u) k (pos 0) ≡ work_value was.work w.samples done k
     given_samples k from below =
@@ -242,7 +251,7 @@ module _ (B : Type 0) (old new : Table) (u : ℕ) (out : List ℤ) (f : CanFill 
 
       value_then : unit_value (kind_of p.work) was.timing (memory_in p.work) (was.timing.start + computed_next_in old u) (sounds_by p.work (λ i. input_sound w.samples (input_of (record was { work = p.work }) i))) (was.timing.start + k) ≡ work_value p.work w.samples (computed_next_in old u) k
       value_then =
-          value_is was.timing was.inputs.items w.samples was.timing.len (computed_next_in old u) k rest p.work
+          value_is was.timing was.inputs.items w.samples was.timing.len (computed_next_in old u) k rest p.work (λ mix. quiet (was.timing.start + k))
           (sides_on was.work p.work (computed_next_in old u) p.moves unit.sides)
           (begins_on was.work p.work (computed_next_in old u) was.timing p.moves unit.begins)
           (given_on was.work p.work was.timing.len done (computed_next_in old u) p.moves given)

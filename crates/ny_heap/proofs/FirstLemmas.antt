@@ -11,7 +11,7 @@ use Rattle.ny_units.specs.declared.input.Source.TheVariants.{Reader as ListSourc
 use Rattle.ny_heap.specs.declared.table.Unit.{Unit as UnitData}
 use Rattle.ny_heap.specs.declared.table.Table.{Table}
 use Rattle.ny_heap.specs.declared.work.Work.{Work}
-use Rattle.ny_heap.specs.declared.work.Work.TheVariants.{Leaf as LeafWork, Pair as PairWork, Abs as AbsWork, Resample as ResampleWork, Filter as FilterWork, Channel as ChannelWork}
+use Rattle.ny_heap.specs.declared.work.Work.TheVariants.{Leaf as LeafWork, Pair as PairWork, Abs as AbsWork, Resample as ResampleWork, Filter as FilterWork, Mix as MixWork, Channel as ChannelWork}
 use Rattle.ny_heap.specs.Heap.{Reader, Node, node_at, input_at, is_open, computed_of, next_taken, taken_after}
 use Rattle.ny_heap.specs.Steps.{lacks, wants, want_of}
 use Rattle.ny_heap.specs.Wanting.{NoneWanted}
@@ -65,6 +65,7 @@ need_taken (PairWork p a b) t ts i done c begins brings inside is starts sees so
 need_taken (AbsWork s) t ts i done c begins brings inside is starts sees some = need_like s (start_of s) done c t (get_or ts i t) is some begins starts sees
 need_taken (ResampleWork r) t ts i done c begins brings inside is starts sees some = brought r.from r.to t (get_or ts i t) done (first_timing r ts t i brings inside) begins
 need_taken (FilterWork f start) t ts i done c begins brings inside is starts sees some = need_like (ListSource f.reader start) start done c t (get_or ts i t) is some begins starts sees
+need_taken (MixWork m) t ts i done c begins brings inside is starts sees some = need_like (source_at (MixWork m) i) m.timing.start done c t (get_or ts i t) is some (ap (λ (k : Timing). k.start) begins) starts sees
 need_taken (ChannelWork p) t ts i done c begins brings inside is starts sees some = need_like p.input p.start done c t (get_or ts i t) is some begins starts sees
 
 module _ (B : Type 0) (t : Table) (table : IsTable t []) (fills peak : ℕ) (u : ℕ) (x : UnitData) (at : unit_at t u ≡ Some x) where

@@ -9,7 +9,9 @@ use Rattle.ny_heap.specs.declared.task.Task.{Task}
 use Rattle.ny_heap.specs.declared.work.Work.{Work}
 use Rattle.ny_heap.specs.Work.{kind_of}
 use Rattle.ny_heap.specs.Table.{IsTable, Drops, len_of, stands_at}
-use Rattle.ny_heap.specs.Tasks.{IsTask, BeginsWork, IsGivenBack, kind_of_task}
+use Rattle.ny_heap.specs.declared.task.Unused.{Unused}
+use Rattle.ny_heap.specs.declared.task.Unused.TheVariants.{One, All as AllUnused}
+use Rattle.ny_heap.specs.Tasks.{IsTask, BeginsWork, IsGivenBack, AreLeft, cursors_left, kind_of_task}
 use Rattle.ny_heap.specs.Making.{Grows, Places, first_cursor, Loses, Gains}
 use Rattle.ny_heap.proofs.CountLemmas.{held_cons}
 use Rattle.ny_heap.proofs.SoundLemmas.{cursors_in}
@@ -60,14 +62,23 @@ module _ (t : Table) (sounds : List Sound) (c : CursorState) (given : IsGivenBac
   only = ap cursors_in given.only ∙ ap (λ (o : Option CursorState). o ∷ []) given.reads
 
   -- the cursor that was given back can be spent
-  pub given_taken : IsTable t (cursors_in sounds) → IsTable t (Some c ∷ [])
+  given_taken : IsTable t (cursors_in sounds) → IsTable t (Some c ∷ [])
   given_taken table = subst (λ (d : CursorState). IsTable t (Some d ∷ [])) (sym given.is) (IsTable-seen t given.reader given.sound.timing.len [] (subst (IsTable t) only table))
 
   -- and then its sound is
-  pub given_spent : (new : Table) → Drops t new (Some c ∷ []) [] → Drops t new (cursors_in sounds) []
+  given_spent : (new : Table) → Drops t new (Some c ∷ []) [] → Drops t new (cursors_in sounds) []
   given_spent new drops =
       subst (λ cs. Drops t new cs []) (sym only)
       (Drops-seen t new given.reader given.sound.timing.len (subst (λ (d : CursorState). Drops t new (Some d ∷ []) []) given.is drops))
+
+-- so of all that is left
+pub left_taken : (t : Table) (sounds : List Sound) (u : Unused) → AreLeft sounds u → IsTable t (cursors_in sounds) → IsTable t (cursors_left u)
+left_taken t sounds (One c) left table = given_taken t sounds c left table
+left_taken t sounds (AllUnused rest) left table = subst (λ ss. IsTable t (cursors_in ss)) (sym left) table
+
+pub left_spent : (t new : Table) (sounds : List Sound) (u : Unused) → AreLeft sounds u → Drops t new (cursors_left u) [] → Drops t new (cursors_in sounds) []
+left_spent t new sounds (One c) left drops = given_spent t sounds c left new drops
+left_spent t new sounds (AllUnused rest) left drops = subst (λ ss. Drops t new (cursors_in ss) []) left drops
 
 -- ---- outcomes
 

@@ -1,5 +1,5 @@
 -- What a unit is to give, once its inputs have moved on and those that have nothing more to give were dropped: the same.
-use Rattle.std.proofs.Common.{◌≡◌, ◌≢◌, inl, inr, ℕ, ◌+◌, ◌-◌, ◌*◌, ◌<◌, ◌≤◌, min, List, [], ◌∷◌, ◌++◌, map, take, drop, get_or, Option, None, Some, refl, sym, ap, subst, ◌∙◌, arith, ℤ, pos}
+use Rattle.std.proofs.Common.{◌≡◌, ◌≢◌, inl, inr, ℕ, ◌+◌, ◌-◌, ◌*◌, ◌<◌, ◌≤◌, min, List, [], ◌∷◌, ◌++◌, length, map, take, drop, get_or, Option, None, Some, refl, sym, ap, subst, ◌∙◌, arith, ℤ, pos}
 use Rattle.std.specs.List.{range_with_len}
 use Rattle.std.specs.Option.{option_map}
 use Rattle.std.proofs.lemmas.Bool.{cases_eq, cases_lt}
@@ -17,13 +17,14 @@ use Rattle.ny_units.specs.Resamplings.{next_after, index_before, BeginsLater}
 use Rattle.ny_heap.specs.declared.make.Make.TheVariants.{Resample}
 use Rattle.ny_heap.specs.declared.table.Unit.{Unit as UnitData}
 use Rattle.ny_heap.specs.declared.work.Work.{Work}
-use Rattle.ny_heap.specs.declared.work.Work.TheVariants.{Leaf as LeafWork, Pair as PairWork, Abs as AbsWork, Resample as ResampleWork, Filter as FilterWork, Channel as ChannelWork}
+use Rattle.ny_heap.specs.declared.work.Work.TheVariants.{Leaf as LeafWork, Pair as PairWork, Abs as AbsWork, Resample as ResampleWork, Filter as FilterWork, Mix as MixWork, Channel as ChannelWork}
 use Rattle.ny_heap.specs.Heap.{Reader, Made, next_taken, taken_after, blocks_of}
 use Rattle.ny_heap.specs.Means.{heard, first_samples, input_sound, unit_value}
 use Rattle.ny_heap.specs.Work.{kind_of, inputs_in, cursor_at, memory_in}
 use Rattle.ny_heap.specs.Tasks.{BeginsAt, BringsFrom, Hears}
 use Rattle.ny_heap.specs.Table.{input_of, timing_at}
 use Rattle.ny_heap.specs.Filling.{moved_in}
+use Rattle.ny_heap.proofs.PartLemmas.{sum_alike}
 use Rattle.ny_heap.proofs.NeedLemmas.{taken_at, none_taken}
 use Rattle.ny_heap.proofs.FirstLemmas.{first_timing}
 use Rattle.ny_heap.proofs.FillLemmas.{moved_some, moved_none}
@@ -192,6 +193,10 @@ module _ (samples : ℕ → List ℤ) (block filled k : ℕ) (rest : List (Optio
       first_heard_at : (t : Timing) (ts : List Timing) → Hears (FilterWork f start) t ts → t ≡ get_or ts 0 t
       first_heard_at t [] h = absurd h
       first_heard_at t (s ∷ ss) h = h
+  by_work x (MixWork m) still below begins brings hears =
+      let y : UnitData = record x { work = MixWork m } in
+      sum_alike (λ i. input_sound samples (moved_in block y filled (input_of y i))) (λ i. input_sound samples (input_of y i)) rest (x.timing.start + k) 0 (length m.parts) (pos 0)
+      (λ i begin end. heard_plain samples block y filled still k from below (input_of y i) (λ input n. refl))
   by_work x (ChannelWork p) still below begins brings hears =
       let y : UnitData = record x { work = ChannelWork p } in
       heard_plain samples block y filled still k from below (input_of y 0) (λ input n. refl)

@@ -17,18 +17,22 @@ use Rattle.ny_heap.proofs.ViewLemmas.{filled_is}
 
 -- ---- an input that reads nothing
 
--- the next input is to move on
-pub settling_stays : (t : Table) (u i : ℕ) → Settling t u i → Settling t u (i + 1)
-settling_stays t u i s = record {
+-- inputs from a later one on are to move on
+settling_later : (t : Table) (u i j : ℕ) → i ≤ j → Settling t u i → Settling t u j
+settling_later t u i j less s = record {
   table = s.table;
   read = s.read;
   unit = s.unit;
   there = s.there;
   before = s.before;
   filled = s.filled;
-  places = λ k c from within cursor. s.places k c (omega (arith, from)) within cursor;
-  computed = λ k c from within cursor. s.computed k c (omega (arith, from)) within cursor;
+  places = λ k c from within cursor. s.places k c (omega (arith, from, less)) within cursor;
+  computed = λ k c from within cursor. s.computed k c (omega (arith, from, less)) within cursor;
 }
+
+-- the next one
+pub settling_stays : (t : Table) (u i : ℕ) → Settling t u i → Settling t u (i + 1)
+settling_stays t u i s = settling_later t u i (i + 1) (omega arith) s
 
 -- nothing is changed
 pub Settles-same : (t : Table) (u i j : ℕ) (x : UnitData) → unit_at t u ≡ Some x → ((k : ℕ) → i ≤ k → k < j → cursor_at x.work k ≡ None) → Settles t t u i j
@@ -133,10 +137,11 @@ pub record Going (start t : Table) (u count i : ℕ) : Type 0 where
   pub settles : Settles start t u 0 i
   pub counts : (x : UnitData) → unit_at start u ≡ Some x → (count ≡ inputs_in x.work) × (count ≡ length x.inputs.items)
 
-pub Going-begun : (t : Table) (u count : ℕ) → Settling t u 0 → ((x : UnitData) → unit_at t u ≡ Some x → count ≡ inputs_in x.work) → Going t t u count 0
-Going-begun t u count s counts = record {
-  settling = s;
-  settles = Settles-same t u 0 0 s.unit s.there (λ k from to. absurd (omega (arith, to)));
+-- those that read nothing are where they were
+pub Going-begun : (t : Table) (u count over : ℕ) → Settling t u 0 → ((x : UnitData) → unit_at t u ≡ Some x → count ≡ inputs_in x.work) → ((x : UnitData) → unit_at t u ≡ Some x → (k : ℕ) → k < over → cursor_at x.work k ≡ None) → Going t t u count over
+Going-begun t u count over s counts gone = record {
+  settling = settling_later t u 0 over (omega arith) s;
+  settles = Settles-same t u 0 over s.unit s.there (λ k from to. gone s.unit s.there k to);
   counts = λ x at. let l = s.table.units u x at in (counts x at, counts x at ∙ sym l.2.count);
 }
 

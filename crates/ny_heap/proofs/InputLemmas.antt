@@ -1,5 +1,5 @@
 -- Another cursor in one input of a unit's work.
-use Rattle.std.proofs.Common.{◌≡◌, ◌≢◌, inl, inr, [], ◌∷◌, ℕ, zero, suc, ◌+◌, ◌<◌, List, length, set, Option, None, Some, refl, sym, ap, subst, ◌∙◌, arith}
+use Rattle.std.proofs.Common.{◌≡◌, ◌≢◌, inl, inr, [], ◌∷◌, ℕ, zero, suc, ◌+◌, ◌<◌, List, length, set, Option, None, Some, refl, sym, ap, subst, ◌∙◌, arith, length-set}
 use Rattle.std.specs.List.{sum_by}
 use Rattle.std.proofs.lemmas.Bool.{cases_eq}
 use Rattle.std.specs.Option.{option_map, option_map_or}
@@ -11,15 +11,18 @@ use Rattle.ny_list.proofs.IndexLemmas.{none_some, tab_get, tab_set}
 use Rattle.ny_units.specs.Inputs.{reader_of, start_of, taken_of, with_reader, IsReader}
 use Rattle.ny_units.specs.declared.input.Source.{Source}
 use Rattle.ny_units.specs.declared.input.Source.TheVariants.{Reader as ListSource, Number}
+use Rattle.ny_mix.specs.declared.part.Part.{Part}
+use Rattle.ny_mix.specs.Mixes.{part_at}
 use Rattle.ny_heap.specs.declared.table.Unit.{Unit as UnitData}
 use Rattle.ny_heap.specs.declared.table.Table.{Table}
 use Rattle.ny_heap.specs.declared.work.Work.{Work}
-use Rattle.ny_heap.specs.declared.work.Work.TheVariants.{Leaf as LeafWork, Pair as PairWork, Abs as AbsWork, Resample as ResampleWork, Filter as FilterWork, Channel as ChannelWork}
+use Rattle.ny_heap.specs.declared.work.Work.TheVariants.{Leaf as LeafWork, Pair as PairWork, Abs as AbsWork, Resample as ResampleWork, Filter as FilterWork, Mix as MixWork, Channel as ChannelWork}
 use Rattle.ny_heap.specs.Heap.{Reader, is_reader}
 use Rattle.ny_heap.specs.Work.{kind_of, inputs_in, memory_in, source_at, with_source, cursor_at, without_cursor_at, with_cursor_at, HasGiven}
 use Rattle.ny_heap.specs.Tasks.{IsSide, HasSides, BeginsAt, BringsFrom, Hears}
 use Rattle.ny_heap.specs.Table.{unit_at, timing_at, input_of, readers_of, own_of, own_in, len_of, stands_at}
 use Rattle.ny_heap.proofs.TableLemmas.{place_within}
+use Rattle.ny_heap.proofs.PartLemmas.{part_here, part_else, part_twice}
 use Rattle.ny_heap.proofs.RestLemmas.{same_mark}
 
 -- ---- inputs
@@ -111,6 +114,7 @@ same_work (FilterWork f start) i s t ts inside like = record { kind = refl; memo
     heard : (ts : List Timing) → Hears (FilterWork f start) t ts → Hears (with_source (FilterWork f start) i s) t ts
     heard [] is = is
     heard (k ∷ ks) is = is
+same_work (MixWork m) i s t ts inside like = record { kind = refl; memory = refl; count = length-set m.parts i (record (part_at m.parts i) { cursor = reader_of s }); sides = λ is. is; begins = λ is. is; brings = λ is. is; hears = λ is. is; given = λ len n is. is }
 same_work (ChannelWork p) i s t ts inside like = record { kind = refl; memory = refl; count = refl; sides = λ is. like_side p.input s like is; begins = λ is. is; brings = λ is. is; hears = λ is. is; given = λ len n is. is }
 
 -- the input that changed
@@ -129,6 +133,8 @@ source_here (ResampleWork r) i (ListSource c start) inside like = ap (ListSource
 source_here (ResampleWork r) i (Number a) inside like = absurd like
 source_here (FilterWork f start) i (ListSource c begins) inside like = ap (ListSource c) like
 source_here (FilterWork f start) i (Number a) inside like = absurd like
+source_here (MixWork m) i (ListSource c start) inside like = ap (λ (p : Part). ListSource p.cursor p.start) (part_here m.parts i c inside) ∙ ap (ListSource c) like
+source_here (MixWork m) i (Number a) inside like = absurd like
 source_here (ChannelWork p) i s inside like = refl
 
 -- and the others
@@ -146,6 +152,7 @@ source_other (PairWork p None None) (suc (suc i)) k s inside within ne = absurd 
 source_other (AbsWork a) i k s inside within ne = absurd (ne (omega (arith, inside, within)))
 source_other (ResampleWork r) i k s inside within ne = absurd (ne (omega (arith, inside, within)))
 source_other (FilterWork f start) i k s inside within ne = absurd (ne (omega (arith, inside, within)))
+source_other (MixWork m) i k s inside within ne = ap (λ (p : Part). ListSource p.cursor p.start) (part_else m.parts i k (reader_of s) ne)
 source_other (ChannelWork p) i k s inside within ne = absurd (ne (omega (arith, inside, within)))
 
 -- twice in one place
@@ -162,6 +169,7 @@ source_twice (PairWork p None None) (suc (suc i)) a b inside = absurd (omega (ar
 source_twice (AbsWork c) i a b inside = refl
 source_twice (ResampleWork r) i a b inside = refl
 source_twice (FilterWork f start) i a b inside = refl
+source_twice (MixWork m) i a b inside = ap (λ parts. MixWork (record m { parts = parts })) (part_twice m.parts i (reader_of a) (reader_of b) inside)
 source_twice (ChannelWork p) i a b inside = refl
 
 -- a cursor that was taken is put back

@@ -1,6 +1,7 @@
 pub mod WorkLemmas
 pub mod TableLemmas
 pub mod ListLemmas
+pub mod PartLemmas
 pub mod RestLemmas
 pub mod CountLemmas
 pub mod DropLemmas

@@ -1,5 +1,5 @@
 -- What a unit is to give, where some of its inputs were dropped.
-use Rattle.std.proofs.Common.{◌≡◌, inl, inr, ℕ, ◌+◌, ◌-◌, ◌*◌, ◌<◌, ◌≤◌, ◌&&◌, min, nat_lt, nat_le, cond, Bool, true, false, List, [], ◌∷◌, ◌++◌, map, take, drop, get_or, Option, None, Some, refl, sym, ap, subst, ◌∙◌, arith, ℤ, pos}
+use Rattle.std.proofs.Common.{◌≡◌, inl, inr, ℕ, ◌+◌, ◌-◌, ◌*◌, ◌<◌, ◌≤◌, ◌&&◌, min, nat_lt, nat_le, cond, Bool, true, false, List, [], ◌∷◌, ◌++◌, length, map, take, drop, get_or, Option, None, Some, refl, sym, ap, subst, ◌∙◌, arith, ℤ, pos}
 use Rattle.std.specs.List.{range_with_len}
 use Rattle.std.proofs.lemmas.Bool.{cases_eq, cases_lt, lt-ltb}
 use Rattle.std.proofs.lemmas.List.{get_or_past, length-take}
@@ -13,12 +13,13 @@ use Rattle.ny_units.specs.Resamplings.{Resampling, next_after, index_before}
 use Rattle.ny_filters.specs.Filtering.{Filtering, outputs_after}
 use Rattle.ny_heap.specs.declared.table.Unit.{Unit as UnitData}
 use Rattle.ny_heap.specs.declared.work.Work.{Work}
-use Rattle.ny_heap.specs.declared.work.Work.TheVariants.{Leaf as LeafWork, Pair as PairWork, Abs as AbsWork, Resample as ResampleWork, Filter as FilterWork, Channel as ChannelWork}
+use Rattle.ny_heap.specs.declared.work.Work.TheVariants.{Leaf as LeafWork, Pair as PairWork, Abs as AbsWork, Resample as ResampleWork, Filter as FilterWork, Mix as MixWork, Channel as ChannelWork}
 use Rattle.ny_heap.specs.Heap.{Reader, next_taken, taken_after, blocks_of}
 use Rattle.ny_heap.specs.Means.{heard, first_samples, input_sound, unit_value}
 use Rattle.ny_heap.specs.Work.{kind_of, inputs_in, memory_in}
 use Rattle.ny_heap.specs.Tasks.{BeginsAt, BringsFrom, Hears}
 use Rattle.ny_heap.specs.Filling.{moved_in}
+use Rattle.ny_heap.proofs.PartLemmas.{sum_alike}
 use Rattle.ny_heap.proofs.NeedLemmas.{taken_at}
 use Rattle.ny_heap.proofs.ValueLemmas.{known_before, known_after, known_else, asks_late, between_same}
 
@@ -123,4 +124,5 @@ module _ (t : Timing) (ts : List Timing) (done k : ℕ) (late : done ≤ k) (g h
   value_by (ResampleWork r) begins brings hears same = resampled r begins brings hears same
   value_by (FilterWork f start) begins brings hears same =
       ap (λ o. get_or (outputs_after f.filter f.memory (drop (t.start + done - t.start) (first_samples (o ∷ rest)))) (t.start + k - (t.start + done)) (pos 0)) (same.filter f start refl)
+  value_by (MixWork m) begins brings hears same = sum_alike h g rest (t.start + k) 0 (length m.parts) (pos 0) (λ i from to. same.hear i (t.start + k) (omega (arith, to)) (omega (arith, late)))
   value_by (ChannelWork p) begins brings hears same = same.hear 0 (t.start + k) (omega arith) (omega (arith, late))

@@ -1,5 +1,5 @@
 -- The cursors that are left of a unit's work.
-use Rattle.std.proofs.Common.{◌≡◌, ℕ, zero, suc, ◌+◌, ◌-◌, ◌<◌, ◌≤◌, [], ◌∷◌, length, map, Option, None, Some, refl, sym, ap, ◌∙◌, arith}
+use Rattle.std.proofs.Common.{◌≡◌, ℕ, zero, suc, ◌+◌, ◌-◌, ◌<◌, ◌≤◌, [], ◌∷◌, length, map, Option, None, Some, refl, sym, ap, ◌∙◌, arith, length-set}
 use Rattle.std.specs.List.{range_with_len, sum_by}
 use Rattle.std.specs.Option.{option_map}
 use Rattle.std.proofs.lemmas.List.FromFn.{length-map-range_with_len}
@@ -8,10 +8,13 @@ use Rattle.ny_num.proofs.WrittenLists.{same_places}
 use Rattle.ny_list.specs.Store.{CursorState}
 use Rattle.ny_list.proofs.IndexLemmas.{tab_get, sums_agree}
 use Rattle.ny_heap.specs.declared.table.Unit.{Unit as UnitData}
+use Rattle.ny_mix.specs.declared.part.Part.{Part}
+use Rattle.ny_mix.specs.Mixes.{part_at}
 use Rattle.ny_heap.specs.declared.work.Work.{Work}
-use Rattle.ny_heap.specs.declared.work.Work.TheVariants.{Leaf as LeafWork, Pair as PairWork, Abs as AbsWork, Resample as ResampleWork, Filter as FilterWork, Channel as ChannelWork}
+use Rattle.ny_heap.specs.declared.work.Work.TheVariants.{Leaf as LeafWork, Pair as PairWork, Abs as AbsWork, Resample as ResampleWork, Filter as FilterWork, Mix as MixWork, Channel as ChannelWork}
 use Rattle.ny_heap.specs.Heap.{Reader, is_reader}
 use Rattle.ny_heap.specs.Work.{inputs_in, cursor_at, without_cursor_at}
+use Rattle.ny_heap.proofs.PartLemmas.{part_else}
 use Rattle.ny_heap.specs.Table.{readers_of, input_of, own_of, stands_at, rest_of, timing_at}
 
 pub same_count : (w : Work) (i : ℕ) → inputs_in (without_cursor_at w i) ≡ inputs_in w
@@ -20,6 +23,7 @@ same_count (PairWork p a b) i = refl
 same_count (AbsWork s) i = refl
 same_count (ResampleWork r) i = refl
 same_count (FilterWork f start) i = refl
+same_count (MixWork m) i = length-set m.parts i (record (part_at m.parts i) { cursor = None })
 same_count (ChannelWork p) i = refl
 
 pub other_cursor : (w : Work) (i k : ℕ) → i < k → k < inputs_in w → cursor_at (without_cursor_at w i) k ≡ cursor_at w k
@@ -34,6 +38,7 @@ other_cursor (PairWork p None None) (suc i) k later inside = absurd (omega (arit
 other_cursor (AbsWork s) i k later inside = absurd (omega (arith, inside, later))
 other_cursor (ResampleWork r) i k later inside = absurd (omega (arith, inside, later))
 other_cursor (FilterWork f start) i k later inside = absurd (omega (arith, inside, later))
+other_cursor (MixWork m) i k later inside = ap (λ (p : Part). p.cursor) (part_else m.parts i k None (λ e. omega (arith, e, later)))
 other_cursor (ChannelWork p) i k later inside = absurd (omega (arith, inside, later))
 
 pub rest_done : (w : Work) (i : ℕ) → inputs_in w ≤ i → rest_of w i ≡ []

@@ -1,7 +1,7 @@
 -- One more cursor beside another, and what a contract sees of it.
-use Rattle.std.proofs.Common.{◌≡◌, ◌≢◌, inl, inr, ℕ, zero, suc, ◌+◌, ◌-◌, ◌*◌, ◌<◌, ◌≤◌, ◌^◌, min, nat_eq, cond, nat_lt, IsTrue, ◌↔◌, List, [], ◌∷◌, length, map, get_or, set, Option, None, Some, IsSome, refl, sym, ap, subst, ◌∙◌, arith}
+use Rattle.std.proofs.Common.{◌≡◌, ◌≢◌, inl, inr, ℕ, zero, suc, ◌+◌, ◌-◌, ◌<◌, ◌≤◌, ◌^◌, cond, nat_lt, IsTrue, ◌↔◌, List, [], ◌∷◌, length, map, get_or, set, Option, None, Some, refl, sym, ap, subst, ◌∙◌, arith}
 use Rattle.std.specs.List.{range_with_len, sum}
-use Rattle.std.specs.Option.{option_map, option_map_or, ForSome}
+use Rattle.std.specs.Option.{option_map, option_map_or}
 use Rattle.std.proofs.lemmas.List.{get_or_past, ext_get_or}
 use Rattle.std.proofs.lemmas.List.FromFn.{length-map-range_with_len}
 use Rattle.std.proofs.lemmas.Bool.{cases_eq, cases_lt, eq-eqb, ne_eqb, lt-ltb, ltb-true}
@@ -12,7 +12,7 @@ use Rattle.ny_list.proofs.IndexLemmas.{same_some, none_some, sum_at, tab_get, ta
 use Rattle.ny_heap.specs.declared.sound.Sound.{Sound}
 use Rattle.ny_heap.specs.declared.table.Unit.{Unit as UnitData}
 use Rattle.ny_heap.specs.declared.table.Table.{Table}
-use Rattle.ny_heap.specs.Heap.{Node, HeapState, node_at, list_of, place_of, blocks_of, stands_in, taken_after, readers_in}
+use Rattle.ny_heap.specs.Heap.{Node, node_at, list_of, place_of, blocks_of, stands_in, taken_after, readers_in}
 use Rattle.ny_heap.specs.Means.{KeepsMeaning}
 use Rattle.ny_heap.specs.Steps.{IsCounted, changed, with_mark, with_sound}
 use Rattle.ny_heap.specs.Sharing.{readers_of, CanShare}

@@ -1,5 +1,5 @@
 -- What work has still to give: the same once it has moved on, and what its unit is to give.
-use Rattle.std.proofs.Common.{◌≡◌, ◌≢◌, inl, inr, ℕ, zero, suc, ◌+◌, ◌-◌, ◌*◌, ◌/◌, ◌%◌, ◌<◌, ◌≤◌, nat_eq, nat_le, cond, List, [], ◌∷◌, ◌++◌, map, take, drop, get_or, Option, None, Some, refl, sym, ap, subst, ◌∙◌, arith, ℤ, pos}
+use Rattle.std.proofs.Common.{◌≡◌, ◌≢◌, inl, inr, ℕ, zero, suc, ◌+◌, ◌-◌, ◌*◌, ◌/◌, ◌%◌, ◌<◌, ◌≤◌, nat_eq, nat_le, cond, List, [], ◌∷◌, ◌++◌, length, Vec, Global, map, take, drop, get_or, Option, None, Some, refl, sym, ap, subst, ◌∙◌, arith, ℤ, pos}
 use Rattle.std.specs.List.{range_with_len}
 use Rattle.std.specs.Option.{option_map}
 use Rattle.std.proofs.lemmas.Bool.{cases_eq, cases_lt, eq-eqb, ne_eqb}
@@ -23,14 +23,19 @@ use Rattle.ny_units.specs.Inputs.{start_of, reader_of}
 use Rattle.ny_units.specs.Courses.{on_way}
 use Rattle.ny_units.specs.Neighbours.{known_at, between}
 use Rattle.ny_units.specs.Resamplings.{Resampling, next_after, index_before, BeginsLater}
+use Rattle.ny_num.specs.Mix.{sum_at}
+use Rattle.ny_mix.specs.Mixes.{MixState, part_at, part_sound, sounds_of}
+use Rattle.ny_mix.proofs.Sums.{value_heard, value_silent}
 use Rattle.ny_units.specs.declared.input.Source.{Source}
 use Rattle.ny_units.specs.declared.input.Source.TheVariants.{Reader as ListSource, Number}
 use Rattle.ny_heap.specs.declared.work.Work.{Work}
-use Rattle.ny_heap.specs.declared.work.Work.TheVariants.{Leaf as LeafWork, Pair as PairWork, Abs as AbsWork, Resample as ResampleWork, Filter as FilterWork, Channel as ChannelWork}
-use Rattle.ny_heap.specs.Heap.{Reader}
+use Rattle.ny_heap.specs.declared.work.Work.TheVariants.{Leaf as LeafWork, Pair as PairWork, Abs as AbsWork, Resample as ResampleWork, Filter as FilterWork, Mix as MixWork, Channel as ChannelWork}
+use Rattle.ny_heap.specs.declared.sound.Sound.{Sound}
+use Rattle.ny_heap.specs.Heap.{Reader, Mix}
 use Rattle.ny_heap.specs.Means.{heard, first_samples, input_sound, unit_value}
 use Rattle.ny_heap.specs.Work.{kind_of, inputs_in, source_at, memory_in, heard_in, seen_in, known_in, work_value, HasGiven, MovesOn, Recalls}
 use Rattle.ny_heap.specs.Tasks.{IsSide, HasSides, BeginsAt, Hears}
+use Rattle.ny_heap.proofs.PartLemmas.{AddNothing, sum_of_parts}
 use Rattle.ny_heap.proofs.NeedLemmas.{before_rises, none_next, some_next}
 
 -- ---- a filter that has moved on
@@ -177,6 +182,7 @@ value_on (ResampleWork r) v t ts whole len from n k moves recalls hears given le
 value_on (FilterWork f start) v t ts whole len from n k moves recalls hears given less =
     ap (λ w. work_value w whole (from + n) k) moves.1
     ∙ filter_on whole f moves.0 start from n k given (subst (λ w. Recalls (FilterWork f start) w whole from n) moves.1 recalls) less
+value_on (MixWork m) v t ts whole len from n k moves recalls hears given less = ap (λ w. work_value w whole (from + n) k) moves
 value_on (ChannelWork p) v t ts whole len from n k moves recalls hears given less = ap (λ w. work_value w whole (from + n) k) moves
 
 -- ---- what its unit is to give
@@ -211,30 +217,41 @@ module _ (t : Timing) (ts : List Timing) (whole : ℕ → List ℤ) (len from k 
   abbrev pub AreHeardSo : Work → Type 0
   AreHeardSo w = (i : ℕ) → i < inputs_in w → IsHeardSo (source_at w i) (get_or ts i t)
 
-  -- what work computes is what its unit is to give
-  pub value_is : (w : Work) → HasSides w → BeginsAt w t → HasGiven w len from → AreHeardSo w
+  -- a part of a mix is heard as the part that its fill adds
+  part_is : (m : MixState (Vec Sound Global)) (i n : ℕ) → i < length m.parts → AreHeardSo (MixWork m) → heard (input_sound whole (read_by (source_at (MixWork m) i) (get_or ts i t))) n ≡ value_at (part_sound m.timing.rate whole (part_at m.parts i)) n
+  part_is m i n inside so = heard_is whole (source_at (MixWork m) i) (get_or ts i t) n tt (so i inside) ∙ by (part_at m.parts i).cursor refl
+    where
+      by : (o : Option CursorState) → (part_at m.parts i).cursor ≡ o → heard_in whole (ListSource o (part_at m.parts i).start) n ≡ value_at (part_sound m.timing.rate whole (part_at m.parts i)) n
+      by None e = sym (value_silent m.timing.rate whole (part_at m.parts i) n e)
+      by (Some c) e = sym (value_heard m.timing.rate whole (part_at m.parts i) c n e)
+
+  -- what work computes is what its unit is to give. Others that a mix hears are silent then
+  pub value_is : (w : Work) → (kind_of w ≡ Mix → AddNothing rest (t.start + k)) → HasSides w → BeginsAt w t → HasGiven w len from → AreHeardSo w
       → unit_value (kind_of w) t (memory_in w) (t.start + from) (inputs_by w) (t.start + k) ≡ work_value w whole from k
-  value_is (LeafWork p) sides begins given so = let e : t.start + k - t.start ≡ k = omega arith in ap (leaf_value p.leaf) e
-  value_is (PairWork p None None) sides begins given so =
+  value_is (LeafWork p) quiet sides begins given so = let e : t.start + k - t.start ≡ k = omega arith in ap (leaf_value p.leaf) e
+  value_is (PairWork p None None) quiet sides begins given so =
       (λ i. operation p.op (heard_is whole p.left (get_or ts 0 t) (t.start + k) sides.0 (so 0 (omega arith)) i) (heard_is whole p.right (get_or ts 1 t) (t.start + k) sides.1 (so 1 (omega arith)) i))
       ∙ ap (λ b. operation p.op (heard_in whole p.left (b + k)) (heard_in whole p.right (b + k))) (sym begins)
-  value_is (PairWork p (Some a) None) sides begins given so =
+  value_is (PairWork p (Some a) None) quiet sides begins given so =
       (λ i. operation p.op (heard_in whole (sym sides.0 i) (t.start + k)) (heard_is whole p.right (get_or ts 0 t) (t.start + k) sides.1 (so 0 (omega arith)) i))
       ∙ ap (λ b. operation p.op (heard_in whole p.left (b + k)) (heard_in whole p.right (b + k))) (sym begins)
-  value_is (PairWork p None (Some b)) sides begins given so =
+  value_is (PairWork p None (Some b)) quiet sides begins given so =
       (λ i. operation p.op (heard_is whole p.left (get_or ts 0 t) (t.start + k) sides.0 (so 0 (omega arith)) i) (heard_in whole (sym sides.1 i) (t.start + k)))
       ∙ ap (λ b. operation p.op (heard_in whole p.left (b + k)) (heard_in whole p.right (b + k))) (sym begins)
-  value_is (PairWork p (Some a) (Some b)) sides begins given so =
+  value_is (PairWork p (Some a) (Some b)) quiet sides begins given so =
       (λ i. operation p.op (heard_in whole (sym sides.0 i) (t.start + k)) (heard_in whole (sym sides.1 i) (t.start + k)))
       ∙ ap (λ b. operation p.op (heard_in whole p.left (b + k)) (heard_in whole p.right (b + k))) (sym begins)
-  value_is (AbsWork s) sides begins given so =
+  value_is (AbsWork s) quiet sides begins given so =
       ap sample_abs (heard_is whole s (get_or ts 0 t) (t.start + k) sides (so 0 (omega arith))) ∙ ap (λ b. sample_abs (heard_in whole s (b + k))) (sym begins)
-  value_is (ResampleWork r) sides begins given so =
+  value_is (ResampleWork r) quiet sides begins given so =
       let count : t.start + from - t.start ≡ r.given = omega (arith, given) in
       λ i. between r.from.rate (sym begins i).rate (known_at (next_after r.from (sym begins i) (count i)) r.before r.after (λ p. heard_is whole (ListSource r.reader r.from.start) (get_or ts 0 t) p tt (so 0 (omega arith)) i)) ((sym begins i).start + k)
-  value_is (FilterWork f start) sides begins given so =
+  value_is (FilterWork f start) quiet sides begins given so =
       let first : t.start + from - t.start ≡ from = omega arith in
       let own : t.start + k - (t.start + from) ≡ k - from = omega arith in
       λ i. get_or (outputs_after f.filter f.memory (drop (first i) (samples_are whole f.reader start (get_or ts 0 t) rest (so 0 (omega arith)) i))) (own i) (pos 0)
-  value_is (ChannelWork p) sides begins given so =
+  value_is (MixWork m) quiet sides begins given so =
+      sum_of_parts m.timing.rate whole m.parts (t.start + k) (λ i. input_sound whole (read_by (source_at (MixWork m) i) (get_or ts i t))) (λ i inside. part_is m i (t.start + k) inside so) rest (quiet refl)
+      ∙ ap (λ (b : Timing). sum_at (sounds_of m.timing.rate whole m.parts) (b.start + k)) (sym begins)
+  value_is (ChannelWork p) quiet sides begins given so =
       heard_is whole p.input (get_or ts 0 t) (t.start + k) sides (so 0 (omega arith)) ∙ ap (λ b. heard_in whole p.input (b + k)) (sym begins)

@@ -1,5 +1,5 @@
 -- What a unit wants, and heaps without units.
-use Rattle.std.proofs.Common.{◌≡◌, inl, inr, ℕ, zero, suc, ◌+◌, ◌-◌, ◌<◌, ◌≤◌, ◌^◌, min, List, [], ◌∷◌, length, get_or, replicate, Option, None, Some, IsSome, is_some, count_by, refl, sym, ap, subst, ◌∙◌, arith, cond}
+use Rattle.std.proofs.Common.{◌≡◌, inl, inr, ℕ, zero, suc, ◌+◌, ◌-◌, ◌<◌, ◌≤◌, ◌^◌, min, max, List, [], ◌∷◌, length, get_or, replicate, Option, None, Some, IsSome, is_some, count_by, refl, sym, ap, subst, ◌∙◌, arith, cond}
 use Rattle.std.specs.Option.{option_map}
 use Rattle.std.proofs.lemmas.List.{length-replicate}
 use Rattle.std.proofs.lemmas.Bool.{cases_lt}
@@ -64,6 +64,13 @@ NoneLacks-to t x done count n (suc i) is low within none =
     let e : i + 1 ≡ suc i = omega arith in
     subst (NoneLacks t x done count) e
     (NoneLacks-more t x done count i (omega (arith, within)) (NoneLacks-to t x done count n i is (omega (arith, low)) (omega (arith, within)) none) (sym (none i (omega (arith, low)) (omega (arith, within, is)))))
+
+-- inputs at the front that read nothing don't lack
+pub NoneBefore-over : (t : Table) (x : UnitData) (done n over : ℕ) → NoneBefore t x done n → ((k : ℕ) → k < over → cursor_at x.work k ≡ None) → NoneBefore t x done (max n over)
+NoneBefore-over t x done n over none gone k before inside = elim (cases_lt k n) [
+  | inl less ↦ none k less inside
+  | inr past ↦ ap (λ o. lacks_in t x done o k) (gone k (omega (arith, before, past)))
+]
 
 pub NoneLacks-begun : (t : Table) (x : UnitData) (done count n i : ℕ) → count ≡ inputs_in x.work → i ≡ min n count → NoneBefore t x done n → NoneLacks t x done count i
 NoneLacks-begun t x done count n i is least none = NoneLacks-to t x done count n i is (omega (arith, least)) (omega (arith, least)) none

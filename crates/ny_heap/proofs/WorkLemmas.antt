@@ -1,5 +1,5 @@
 -- What work computes of what it reads.
-use Rattle.std.proofs.Common.{◌≡◌, ℕ, zero, suc, ◌+◌, ◌-◌, ◌<◌, ◌≤◌, nat_eq, nat_le, cond, Bool, true, false, List, [], ◌∷◌, map, take, drop, get_or, Option, None, Some, IsSomeAnd, refl, sym, ap, subst, ◌∙◌, arith, ℤ, pos}
+use Rattle.std.proofs.Common.{◌≡◌, ℕ, zero, suc, ◌+◌, ◌-◌, ◌<◌, ◌≤◌, nat_eq, nat_le, cond, Bool, true, false, List, [], ◌∷◌, map, take, drop, get_or, Option, None, Some, Vec, Global, IsSomeAnd, refl, sym, ap, subst, ◌∙◌, arith, ℤ, pos}
 use Rattle.std.specs.List.{range_with_len}
 use Rattle.std.specs.Option.{ForSome, option_map_or}
 use Rattle.std.proofs.lemmas.List.{drop-take}
@@ -16,6 +16,8 @@ use Rattle.ny_units.specs.Neighbours.{between}
 use Rattle.ny_units.specs.Resamplings.{Resampling, CanResample, next_after, known}
 use Rattle.ny_units.specs.declared.input.Source.{Source}
 use Rattle.ny_units.specs.declared.input.Source.TheVariants.{Reader, Number}
+use Rattle.ny_mix.specs.Mixes.{MixState, CanReadParts}
+use Rattle.ny_heap.specs.declared.sound.Sound.{Sound}
 use Rattle.ny_heap.specs.declared.work.Work.TheVariants.{Resample as ResampleWork, Filter as FilterWork}
 use Rattle.ny_heap.specs.Work.{ShowsAll, MovesOn, Recalls, heard_in, seen_in, known_in, work_value}
 use Rattle.ny_heap.proofs.FirstLemmas.{some_and}
@@ -25,6 +27,12 @@ pub read_to : (s : StoreState) (a : Source) (start from n : ℕ) → CanRead s a
 read_to s a start from n can =
     let e : start + (from + n) ≡ start + from + n = omega arith in
     subst (λ end. CanRead s a (start + from) end) e can
+
+-- so of the parts of a mix
+pub parts_to : (s : StoreState) (m : MixState (Vec Sound Global)) (from n : ℕ) → CanReadParts s m.parts (m.timing.start + from) (m.timing.start + (from + n)) → CanReadParts s m.parts (m.timing.start + from) (m.timing.start + from + n)
+parts_to s m from n can =
+    let e : m.timing.start + (from + n) ≡ m.timing.start + from + n = omega arith in
+    subst (λ end. CanReadParts s m.parts (m.timing.start + from) end) e can
 
 same_cursor : {c d : CursorState} → Some c ≡ Some d → c ≡ d
 same_cursor q = cc

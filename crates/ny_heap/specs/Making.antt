@@ -6,7 +6,6 @@ use Rattle.ny_num.specs.declared.timing.Timing.{Timing}
 use Rattle.ny_list.specs.Store.{CursorState, list_at, spare_of}
 use Rattle.ny_list.specs.Steps.{begun, with_list}
 use Rattle.ny_list.specs.Laws.{StoreLaws}
-use Rattle.ny_units.specs.Inputs.{source_of}
 use Rattle.ny_heap.specs.declared.sound.Sound.{Sound}
 use Rattle.ny_heap.specs.declared.table.Unit.{Unit as UnitData}
 use Rattle.ny_heap.specs.declared.table.Table.{Table}
@@ -14,7 +13,7 @@ use Rattle.ny_heap.specs.declared.work.Work.{Work}
 use Rattle.ny_heap.specs.Heap.{Kind}
 use Rattle.ny_heap.specs.Steps.{first_memory}
 use Rattle.ny_heap.specs.Work.{kind_of, inputs_in, source_at, memory_in, HasGiven}
-use Rattle.ny_heap.specs.Tasks.{input_of_sound, HasSides, BeginsAt, BringsFrom, Hears}
+use Rattle.ny_heap.specs.Tasks.{ReadsSound, HasSides, BeginsAt, BringsFrom, Hears}
 use Rattle.ny_heap.specs.Table.{Drops, len_of}
 
 -- some places more, with nothing in them
@@ -75,7 +74,7 @@ pub record Adds (old new : Table) (n : ℕ) (x : UnitData) (sounds : List Sound)
   pub hears : Hears x.work x.timing x.inputs.items
   pub memory : memory_in x.work ≡ first_memory (kind_of x.work) sounds
   pub given : HasGiven x.work x.timing.len 0
-  pub sources : (i : ℕ) (s : Sound) → i < length sounds → s ≡ slice_index_or sounds i s → source_at x.work i ≡ source_of (input_of_sound s)
+  pub sources : (i : ℕ) (s : Sound) → i < length sounds → s ≡ slice_index_or sounds i s → ReadsSound (source_at x.work i) s
 
 -- a sound at the beginning of its list, of which it shows no more than there is
 pub record ShowsFirst (t : Table) (s : Sound) (c : CursorState) : Type 0 where
@@ -83,9 +82,9 @@ pub record ShowsFirst (t : Table) (s : Sound) (c : CursorState) : Type 0 where
   pub some : 0 < s.timing.len
   pub visible : s.timing.len ≤ len_of t.store c.list
 
--- so of each of these sounds that has a sample
+-- so of each of these sounds that has a sample; the others are of length 0
 abbrev pub ShowFirst : Table → List Sound → Type 0
-ShowFirst t sounds = All (λ s. ForSome s.reader (ShowsFirst t s)) sounds
+ShowFirst t sounds = All (λ s. ForSome s.reader (ShowsFirst t s) × (s.reader ≡ None → s.timing.len ≡ 0)) sounds
 
 -- ---- what comes of making one
 

@@ -1,21 +1,24 @@
 -- How units begin. No public clause cites this module.
-use Rattle.std.specs.Prelude.{◌≡◌, ℕ, ◌<◌, List, [], ◌∷◌, ◌++◌, map, length, Option, None, Some, IsSome, slice_index_or, ℤ, pos}
-use Rattle.std.specs.Option.{option_map_or}
+use Rattle.std.specs.Prelude.{◌≡◌, ℕ, ◌<◌, Bool, true, false, List, [], ◌∷◌, ◌++◌, map, length, Option, None, Some, IsSome, slice_index_or, ℤ, pos}
+use Rattle.std.specs.Option.{option_map, option_map_or}
 use Rattle.ny_num.specs.declared.timing.Timing.{Timing}
 use Rattle.ny_list.specs.Store.{CursorState}
 use Rattle.ny_units.specs.Playing.{IsLeaf, Reaches}
-use Rattle.ny_units.specs.Inputs.{source_of, start_of}
+use Rattle.ny_units.specs.Inputs.{source_of, start_of, reader_of}
 use Rattle.ny_units.specs.declared.input.Input.{Input}
 use Rattle.ny_units.specs.declared.input.Input.TheVariants.{List as Heard, Number as Fixed}
 use Rattle.ny_units.specs.declared.input.Source.{Source}
 use Rattle.ny_units.specs.declared.input.Source.TheVariants.{Reader, Number}
 use Rattle.ny_heap.specs.declared.make.Make.TheVariants.{Leaf, Pair, Abs, Resample, Filter}
+use Rattle.ny_mix.specs.declared.part.Part.{Part}
 use Rattle.ny_heap.specs.declared.sound.Sound.{Sound}
 use Rattle.ny_heap.specs.declared.task.Task.{Task}
-use Rattle.ny_heap.specs.declared.task.Task.TheVariants.{Made as MadeTask, Channel as ChannelTask}
+use Rattle.ny_heap.specs.declared.task.Task.TheVariants.{Made as MadeTask, Mix as MixTask, Channel as ChannelTask}
+use Rattle.ny_heap.specs.declared.task.Unused.{Unused}
+use Rattle.ny_heap.specs.declared.task.Unused.TheVariants.{One, All as AllUnused}
 use Rattle.ny_heap.specs.declared.work.Work.{Work}
-use Rattle.ny_heap.specs.declared.work.Work.TheVariants.{Leaf as LeafWork, Pair as PairWork, Abs as AbsWork, Resample as ResampleWork, Filter as FilterWork, Channel as ChannelWork}
-use Rattle.ny_heap.specs.Heap.{Kind, Made, Channel}
+use Rattle.ny_heap.specs.declared.work.Work.TheVariants.{Leaf as LeafWork, Pair as PairWork, Abs as AbsWork, Resample as ResampleWork, Filter as FilterWork, Mix as MixWork, Channel as ChannelWork}
+use Rattle.ny_heap.specs.Heap.{Kind, Made, Mix, Channel}
 use Rattle.ny_num.specs.Resampling.{other_rate_timing}
 use Rattle.ny_units.specs.Resamplings.{BeginsLater}
 use Rattle.ny_filters.specs.Filtering.{IsFilter}
@@ -24,11 +27,19 @@ use Rattle.ny_heap.specs.Work.{kind_of, inputs_in, source_at, begins_in, memory_
 
 abbrev pub kind_of_task : Task → Kind
 kind_of_task (MadeTask make) = Made make
+kind_of_task MixTask = Mix
 kind_of_task ChannelTask = Channel
 
-abbrev pub inputs_of_task : Task → ℕ
-inputs_of_task (MadeTask make) = inputs_of make
-inputs_of_task ChannelTask = 1
+-- the task of a mix, and of a channel
+abbrev pub task_of_mix : Bool → Task
+task_of_mix true = ChannelTask
+task_of_mix false = MixTask
+
+-- a task is of so many sounds; a mix may be of any number
+abbrev pub IsCount : Task → ℕ → Type 0
+IsCount (MadeTask make) n = n ≡ inputs_of make
+IsCount MixTask n = Unit {0}
+IsCount ChannelTask n = n ≡ 1
 
 -- the leaf of a task is one, and has so many samples
 abbrev pub IsTask : Task → ℕ → Type 0
@@ -37,6 +48,7 @@ IsTask (MadeTask (Pair op a b)) len = Unit {0}
 IsTask (MadeTask Abs) len = Unit {0}
 IsTask (MadeTask Resample) len = Unit {0}
 IsTask (MadeTask (Filter f)) len = IsFilter f
+IsTask MixTask len = Unit {0}
 IsTask ChannelTask len = Unit {0}
 
 -- a sound as an input: as far as it is heard, or 0 where it has no sample
@@ -69,6 +81,7 @@ IsReady (MadeTask Resample) [] t = ⊥
 IsReady (MadeTask Resample) (s ∷ ss) t = IsSome s.reader × (t ≡ other_rate_timing t.rate s.timing)
 IsReady (MadeTask (Filter f)) [] t = ⊥
 IsReady (MadeTask (Filter f)) (s ∷ ss) t = IsSome s.reader × (t ≡ s.timing)
+IsReady MixTask sounds t = Unit {0}
 IsReady ChannelTask sounds t = Unit {0}
 
 -- ---- what holds of each work
@@ -85,6 +98,7 @@ HasSides (PairWork p a b) = IsSide a p.left × IsSide b p.right
 HasSides (AbsWork s) = IsSide None s
 HasSides (ResampleWork r) = Unit {0}
 HasSides (FilterWork f start) = Unit {0}
+HasSides (MixWork m) = Unit {0}
 HasSides (ChannelWork p) = IsSide None p.input
 
 -- it begins when its unit is heard, where it has inputs
@@ -94,6 +108,7 @@ BeginsAt (PairWork p a b) t = p.start ≡ t.start
 BeginsAt (AbsWork s) t = begins_in (AbsWork s) ≡ t.start
 BeginsAt (ResampleWork r) t = r.to ≡ t
 BeginsAt (FilterWork f start) t = start ≡ t.start
+BeginsAt (MixWork m) t = m.timing ≡ t
 BeginsAt (ChannelWork p) t = p.start ≡ t.start
 
 -- a resampling knows when its input is heard
@@ -109,6 +124,21 @@ Hears (FilterWork f start) t [] = ⊥
 Hears (FilterWork f start) t (s ∷ ss) = t ≡ s
 Hears _ t ts = Unit {0}
 
+-- an input over a sound reads what that does, as far as it is heard, from where it starts. Over one without samples it reads nothing
+pub record ReadsSound (a : Source) (s : Sound) : Type 0 where
+  pub reads : reader_of a ≡ option_map (λ (c : CursorState). record c { visible = s.timing.len }) s.reader
+  pub starts : IsSome s.reader → start_of a ≡ s.timing.start
+
+-- so of a part of a mix. An input of another task is that of the sound
+abbrev pub IsOver : Task → Source → Sound → Type 0
+IsOver (MadeTask make) a s = a ≡ source_of (input_of_sound s)
+IsOver MixTask a s = ReadsSound a s
+IsOver ChannelTask a s = a ≡ source_of (input_of_sound s)
+
+-- a sound as a part of a mix
+abbrev pub part_of : Sound → Part
+part_of s = record { start = s.timing.start; stop = s.timing.stop; cursor = option_map (λ (c : CursorState). record c { visible = s.timing.len }) s.reader }
+
 -- the work of a task over these sounds, for a unit that is heard so, which has given nothing
 pub record BeginsWork (task : Task) (sounds : List Sound) (t : Timing) (w : Work) : Type 0 where
   pub kind : kind_of w ≡ kind_of_task task
@@ -119,7 +149,7 @@ pub record BeginsWork (task : Task) (sounds : List Sound) (t : Timing) (w : Work
   pub begins : BeginsAt w t
   pub brings : BringsFrom w (map (λ s. s.timing) sounds)
   pub hears : Hears w t (map (λ s. s.timing) sounds)
-  pub sources : (i : ℕ) (s : Sound) → i < length sounds → s ≡ slice_index_or sounds i s → source_at w i ≡ source_of (input_of_sound s)
+  pub sources : (i : ℕ) (s : Sound) → i < length sounds → s ≡ slice_index_or sounds i s → IsOver task (source_at w i) s
 
 -- no work begins: the cursor of its only sound is given back
 pub record IsGivenBack (sounds : List Sound) (c : CursorState) : Type 0 where
@@ -128,3 +158,13 @@ pub record IsGivenBack (sounds : List Sound) (c : CursorState) : Type 0 where
   pub reader : CursorState
   pub reads : sound.reader ≡ Some reader
   pub is : c ≡ record reader { visible = sound.timing.len }
+
+-- no work begins: of a mix all sounds are left
+abbrev pub AreLeft : List Sound → Unused → Type 0
+AreLeft sounds (One c) = IsGivenBack sounds c
+AreLeft sounds (AllUnused left) = left.items ≡ sounds
+
+-- the cursors of what is left
+abbrev pub cursors_left : Unused → List (Option CursorState)
+cursors_left (One c) = Some c ∷ []
+cursors_left (AllUnused left) = map (λ s. s.reader) left.items

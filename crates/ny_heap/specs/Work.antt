@@ -1,7 +1,8 @@
 -- What units compute, from the lists that they read. No public clause cites this module.
-use Rattle.std.specs.Prelude.{◌≡◌, ℕ, ◌+◌, ◌-◌, ◌∷◌, [], List, take, drop, Option, None, IsSomeAnd, is_some, is_none, count_by, slice_index_or, if◌then◌else◌, ℤ, pos}
+use Rattle.std.specs.Prelude.{◌≡◌, ℕ, ◌+◌, ◌-◌, ◌∷◌, [], List, length, take, drop, Option, None, IsSomeAnd, is_some, is_none, count_by, slice_index_or, if◌then◌else◌, ℤ, pos}
 use Rattle.std.specs.Option.{option_map_or, ForSome}
 use Rattle.ny_num.specs.Numbers.{sample_abs}
+use Rattle.ny_num.specs.Mix.{sum_at}
 use Rattle.ny_list.specs.Store.{StoreState, CursorState}
 use Rattle.ny_list.specs.Reading.{Shows}
 use Rattle.ny_kernels.specs.Operations.{operation}
@@ -14,12 +15,14 @@ use Rattle.ny_units.specs.Resamplings.{next_after, CanResample}
 use Rattle.ny_units.specs.Neighbours.{known_at, between}
 use Rattle.ny_filters.specs.Filtering as filters
 use Rattle.ny_filters.specs.Filtering.{IsFilter, outputs_after, memory_after, CanFilter}
+use Rattle.ny_mix.specs.Mixes as mixes
+use Rattle.ny_mix.specs.Mixes.{part_at, CanReadParts}
 use Rattle.ny_units.specs.declared.input.Source.{Source}
 use Rattle.ny_units.specs.declared.input.Source.TheVariants.{Reader, Number}
 use Rattle.ny_heap.specs.declared.make.Make.TheVariants.{Leaf, Pair, Abs, Resample, Filter}
 use Rattle.ny_heap.specs.declared.work.Work.{Work}
-use Rattle.ny_heap.specs.declared.work.Work.TheVariants.{Leaf as LeafWork, Pair as PairWork, Abs as AbsWork, Resample as ResampleWork, Filter as FilterWork, Channel as ChannelWork}
-use Rattle.ny_heap.specs.Heap.{Kind, Made, Channel, Memory, Nothing, Neighbours, Filtered}
+use Rattle.ny_heap.specs.declared.work.Work.TheVariants.{Leaf as LeafWork, Pair as PairWork, Abs as AbsWork, Resample as ResampleWork, Filter as FilterWork, Mix as MixWork, Channel as ChannelWork}
+use Rattle.ny_heap.specs.Heap.{Kind, Made, Mix, Channel, Memory, Nothing, Neighbours, Filtered}
 
 abbrev pub kind_of : Work → Kind
 kind_of (LeafWork p) = Made (Leaf p.leaf)
@@ -27,6 +30,7 @@ kind_of (PairWork p a b) = Made (Pair p.op a b)
 kind_of (AbsWork s) = Made Abs
 kind_of (ResampleWork r) = Made Resample
 kind_of (FilterWork f start) = Made (Filter f.filter)
+kind_of (MixWork m) = Mix
 kind_of (ChannelWork p) = Channel
 
 -- ---- inputs
@@ -38,6 +42,7 @@ inputs_in (PairWork p a b) = count_by is_none (a ∷ b ∷ [])
 inputs_in (AbsWork s) = 1
 inputs_in (ResampleWork r) = 1
 inputs_in (FilterWork f start) = 1
+inputs_in (MixWork m) = length m.parts
 inputs_in (ChannelWork p) = 1
 
 -- the side of an operation that input i is: where a sample is given on the left, the right one
@@ -50,6 +55,7 @@ source_at (PairWork p a b) i = side_of p (side_in a i)
 source_at (AbsWork s) i = s
 source_at (ResampleWork r) i = Reader r.reader r.from.start
 source_at (FilterWork f start) i = Reader f.reader start
+source_at (MixWork m) i = Reader (mixes.cursor_at m.parts i) (part_at m.parts i).start
 source_at (ChannelWork p) i = p.input
 
 -- with another input in its place
@@ -59,6 +65,7 @@ with_source (PairWork p a b) i s = PairWork (with_side p (side_in a i) s) a b
 with_source (AbsWork t) i s = AbsWork s
 with_source (ResampleWork r) i s = ResampleWork (record r { reader = reader_of s })
 with_source (FilterWork f start) i s = FilterWork (record f { reader = reader_of s }) start
+with_source (MixWork m) i s = MixWork (record m { parts = mixes.with_cursor m.parts i (reader_of s) })
 with_source (ChannelWork p) i s = ChannelWork (with_input p s)
 
 -- the cursor of input i, where it has one
@@ -78,6 +85,7 @@ begins_in (PairWork p a b) = p.start
 begins_in (AbsWork s) = start_of s
 begins_in (ResampleWork r) = r.to.start
 begins_in (FilterWork f start) = start
+begins_in (MixWork m) = m.timing.start
 begins_in (ChannelWork p) = p.start
 
 -- how many samples of input i are taken once there are `done`: by a resampling those up to the neighbours of the last one, by all others
@@ -88,6 +96,7 @@ need_in (PairWork p a b) i done = need_of p.start (side_of p (side_in a i)) done
 need_in (AbsWork s) i done = need_of (start_of s) s done
 need_in (ResampleWork r) i done = resamplings.taken_after r.from r.to done
 need_in (FilterWork f start) i done = need_of start (Reader f.reader start) done
+need_in (MixWork m) i done = mixes.need_of m.timing.start m.parts i done
 need_in (ChannelWork p) i done = need_of p.start p.input done
 
 -- ---- samples
@@ -115,6 +124,7 @@ work_value (PairWork p a b) whole from k = operation p.op (heard_in whole p.left
 work_value (AbsWork s) whole from k = sample_abs (heard_in whole s (start_of s + k))
 work_value (ResampleWork r) whole from k = between r.from.rate r.to.rate (known_in whole r) (r.to.start + k)
 work_value (FilterWork f start) whole from k = slice_index_or (outputs_after f.filter f.memory (drop from (seen_in whole f.reader))) (k - from) (pos 0)
+work_value (MixWork m) whole from k = sum_at (mixes.sounds_of m.timing.rate whole m.parts) (m.timing.start + k)
 work_value (ChannelWork p) whole from k = heard_in whole p.input (p.start + k)
 
 -- what the work keeps of what it has passed
@@ -130,6 +140,7 @@ HasGiven (PairWork p a b) len n = Unit {0}
 HasGiven (AbsWork s) len n = Unit {0}
 HasGiven (ResampleWork r) len n = r.given ≡ n
 HasGiven (FilterWork f start) len n = IsFilter f.filter
+HasGiven (MixWork m) len n = Unit {0}
 HasGiven (ChannelWork p) len n = Unit {0}
 
 -- samples `from` to before `end` can be computed: what they take of each input can be read
@@ -139,6 +150,7 @@ CanWork s (PairWork p a b) from end = CanRead s p.left (p.start + from) (p.start
 CanWork s (AbsWork t) from end = CanRead s t (start_of t + from) (start_of t + end)
 CanWork s (ResampleWork r) from end = (ForSome r.reader (λ c. CanResample s r c end)) × (r.reader ≡ None → resamplings.taken_after r.from r.to from ≡ r.from.len)
 CanWork s (FilterWork f start) from end = IsSomeAnd f.reader (λ c. CanFilter s c from end)
+CanWork s (MixWork m) from end = CanReadParts s m.parts (m.timing.start + from) (m.timing.start + end)
 CanWork s (ChannelWork p) from end = CanRead s p.input (p.start + from) (p.start + end)
 
 -- what the work keeps once it has computed so many samples from `from` on: a filter what it keeps after them, a resampling the two samples
@@ -156,4 +168,5 @@ MovesOn (PairWork p a b) new n = new ≡ PairWork p a b
 MovesOn (AbsWork s) new n = new ≡ AbsWork s
 MovesOn (ResampleWork r) new n = (before : ℤ) × (after : ℤ) × (new ≡ ResampleWork (record r { before = before; after = after; given = n }))
 MovesOn (FilterWork f start) new n = (memory : filters.Memory) × (new ≡ FilterWork (record f { memory = memory }) start)
+MovesOn (MixWork m) new n = new ≡ MixWork m
 MovesOn (ChannelWork p) new n = new ≡ ChannelWork p

@@ -1,13 +1,13 @@
-ghost use Rattle.std.specs.Prelude.{◌≡◌, ◌+◌, ◌^◌, ◌<◌, ◌≤◌, map, length, IfOk, OnOk};
+ghost use Rattle.std.specs.Prelude.{◌≡◌, ◌+◌, ◌^◌, ◌<◌, ◌≤◌, [], map, length, IfOk, OnOk};
 ghost use Rattle.ny_list.specs.Laws.{StoreLaws};
-ghost use Rattle.ny_heap.specs.Table.{IsTable};
+ghost use Rattle.ny_heap.specs.Table.{IsTable, Drops};
 ghost use Rattle.ny_heap.specs.Making.{More, Grows, HasRoom, Places, first_cursor, IsMade};
-ghost use Rattle.ny_heap.specs.Tasks.{IsTask, IsReady, kind_of_task, inputs_of_task};
+ghost use Rattle.ny_heap.specs.Tasks.{IsTask, IsReady, IsCount, kind_of_task, cursors_left};
 
 use crate::removal::{drop_reader, drop_sounds};
 use crate::sound::{Sound, same_timing};
 use crate::table::{Table, Unit};
-use crate::task::{Task, begin_work};
+use crate::task::{Task, Unused, begin_work};
 use crate::work::Work;
 use ny_list::Cursor;
 use ny_num::Timing;
@@ -74,6 +74,17 @@ fn add_unit(table: &mut Table, inputs: Vec<Timing>, work: Work, timing: Timing) 
     cursor
 }
 
+// Spends what is left of a task's sounds.
+fn drop_unused(table: &mut Table, unused: Unused)
+    requires { IsTable table.old (cursors_left unused) }
+    ensures { Drops table.old table.new (cursors_left unused) [] }
+{
+    match unused {
+        Unused::One(cursor) => drop_reader(table, cursor),
+        Unused::All(sounds) => drop_sounds(table, sounds),
+    }
+}
+
 /// Adds a unit for this task over these sounds, where it has a sample. Where it has none there is
 /// no unit, and the sounds are dropped, as they are where memory is missing. Answers a cursor at its
 /// beginning.
@@ -86,7 +97,7 @@ pub(crate) fn make_unit(
 ) -> Result<Option<Cursor>, AllocError>
     requires table { IsTable table.old (map (λ s. s.reader) sounds.items) }
     requires early { timing.start + timing.len < 2 ^ 32 }
-    requires count { length sounds.items ≡ inputs_of_task task }
+    requires count { IsCount task (length sounds.items) }
     requires task { 0 < timing.len → IsTask task timing.len }
     requires ready { 0 < timing.len → IsReady task sounds.items timing }
     ensures { IsMade table.old table.new (kind_of_task task) timing sounds.items result }
@@ -102,8 +113,8 @@ pub(crate) fn make_unit(
         }
         Ok(inputs) => match begin_work(alloc, task, sounds, &timing) {
             Ok(work) => Ok(Some(add_unit(table, inputs, work, timing))),
-            Err(cursor) => {
-                drop_reader(table, cursor);
+            Err(unused) => {
+                drop_unused(table, unused);
                 Err(AllocError)
             }
         },

@@ -16,7 +16,7 @@ use crate::removal::drop_reader;
 use crate::sharing::{moved, readers, share_reader};
 use crate::sound::{Sound, begin, list_in, same_timing};
 use crate::table::{Table, is_unfilled};
-use crate::task::Task;
+use crate::task::{Task, mix_task};
 use crate::wants::first_lacking;
 use ny_list::Store;
 use ny_num::{Sample, Ticks, Timing};
@@ -132,7 +132,7 @@ impl<B> Heap<B> {
     /// no sample there is no unit. A channel is a mix of one part. The sounds in `parts` and in
     /// `waiting` are spent.
     ///
-    /// So far a mix is a channel, and no part waits.
+    /// So far no part waits.
     ///
     /// # Errors
     /// `AllocError` where memory is missing. The sounds in `parts` and in `waiting` are spent
@@ -146,9 +146,8 @@ impl<B> Heap<B> {
         channel: bool,
     ) -> Result<Sound, AllocError>
         requires mix { IsMixOf parts.items timing }
-        requires one { length parts.items ≡ 1 }
         requires waits { length waiting.items ≡ 0 }
-        requires channel { IsTrue channel }
+        requires channel { IsTrue channel → length parts.items ≡ 1 }
         requires inputs { AreHeld self.old (parts.items ++ sounds_of (map (λ p. (p.0, p.1.items)) waiting.items)) }
         ensures laws { HeapLaws self.new }
         ensures makes { IfOk result (λ s. Makes self.old self.new (kind_of_mix channel) timing parts.items (map waiting_of (map (λ p. (p.0, p.1.items)) waiting.items)) (parts.items ++ sounds_of (map (λ p. (p.0, p.1.items)) waiting.items)) s) }
@@ -158,7 +157,7 @@ impl<B> Heap<B> {
     {
         waiting.destroy_empty();
         let when = same_timing(&timing);
-        let made = make_unit(&mut self.table, alloc, Task::Channel, parts, timing)?;
+        let made = make_unit(&mut self.table, alloc, mix_task(channel), parts, timing)?;
         Ok(begin(made, when))
     }
 

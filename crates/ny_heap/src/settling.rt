@@ -102,7 +102,8 @@ pub(crate) fn settle_all(table: &mut Table, u: u32)
     ensures table { IsTable table.new [] }
     ensures read { IsRead table.new }
 {
-    for i in 0..inputs_of(table, u) {
+    let first = unit_of(table, u).work.over();
+    for i in first..inputs_of(table, u) {
         settle(table, u, i);
     }
 }

@@ -1,8 +1,9 @@
-ghost use Rattle.std.specs.Prelude.{◌≡◌, ℕ, ◌<◌, length, Some, None, IsSome, All, IfOk, IfErr};
-ghost use Rattle.ny_heap.specs.declared.task.Task.TheVariants.{Made as MadeTask};
+ghost use Rattle.std.specs.Prelude.{◌≡◌, ℕ, ◌+◌, ◌<◌, ◌≤◌, [], ◌∷◌, ◌++◌, length, map, Some, None, IsSome, All, IfOk, IfErr};
+ghost use Rattle.ny_heap.specs.declared.task.Task.TheVariants.{Made as MadeTask, Mix as MixTask};
 ghost use Rattle.ny_heap.specs.declared.make.Make.TheVariants.{Pair as PairMake, Resample as ResampleMake, Filter as FilterMake};
 ghost use Rattle.ny_filters.specs.Filtering.{IsFilter};
-ghost use Rattle.ny_heap.specs.Tasks.{IsTask, input_of_sound, inputs_of_task, BeginsWork, IsGivenBack, IsReady, TakesLast, TakesSide, HasSide};
+ghost use Rattle.ny_heap.specs.Steps.{inputs_of};
+ghost use Rattle.ny_heap.specs.Tasks.{IsTask, IsCount, input_of_sound, part_of, task_of_mix, BeginsWork, IsGivenBack, AreLeft, IsReady, TakesLast, TakesSide, HasSide};
 
 use crate::make::Make;
 use crate::sound::{Sound, same_timing};
@@ -10,15 +11,33 @@ use crate::work::Work;
 use ny_filters::{Filter, FilterUnit};
 use ny_kernels::Op;
 use ny_list::Cursor;
+use ny_mix::Mix;
 use ny_num::{Sample, Timing};
 use ny_units::{AbsUnit, CopyUnit, Input, LeafUnit, PairUnit, ResampleUnit};
 use std::alloc::Global;
+use std::collections::VecDeque;
 
 /// What a unit is to compute.
 #[derive(Drop)]
 pub(crate) enum Task {
     Made(Make),
+    Mix,
     Channel,
+}
+
+/// The task of a mix, or of a channel.
+pub(crate) fn mix_task(channel: bool) -> Task
+    ensures { result ≡ task_of_mix channel }
+{
+    if channel { Task::Channel } else { Task::Mix }
+}
+
+/// What is left of a task's sounds where memory for its work is missing.
+#[derive(Drop)]
+pub(crate) enum Unused {
+    /// The cursor of the only sound.
+    One(Cursor),
+    All(Vec<Sound>),
 }
 
 // A sound as a unit's input: as far as it is heard, or 0 where it has no sample.
@@ -77,7 +96,7 @@ fn begin_pair(
     mut sounds: Vec<Sound>,
     timing: &Timing,
 ) -> Work
-    requires count { length sounds.items ≡ inputs_of_task (MadeTask (PairMake op left right)) }
+    requires count { length sounds.items ≡ inputs_of (PairMake op left right) }
     ensures { BeginsWork (MadeTask (PairMake op left right)) sounds.items timing.now result }
 {
     let second = side_of(&right, &mut sounds);
@@ -91,16 +110,62 @@ fn begin_filter(
     f: Filter,
     mut sounds: Vec<Sound>,
     timing: &Timing,
-) -> Result<Work, Cursor>
+) -> Result<Work, Unused>
     requires count { length sounds.items ≡ 1 }
     requires filter { IsFilter f }
     requires ready { IsReady (MadeTask (FilterMake f)) sounds.items timing.now }
     ensures begins { IfOk result (BeginsWork (MadeTask (FilterMake f)) sounds.items timing.now) }
-    ensures given_back { IfErr result (IsGivenBack sounds.items) }
+    ensures left { IfErr result (AreLeft sounds.items) }
 {
     let cursor = last_cursor(&mut sounds);
-    let unit = FilterUnit::of(alloc, f, cursor)?;
-    Ok(Work::Filter(unit, timing.start))
+    match FilterUnit::of(alloc, f, cursor) {
+        Ok(unit) => Ok(Work::Filter(unit, timing.start)),
+        Err(cursor) => Err(Unused::One(cursor)),
+    }
+}
+
+// A sound as a part of a mix: as far as it is heard.
+fn attach_sound(mix: &mut Mix<Vec<Sound>>, sound: Sound)
+    requires room { length mix.old.parts + length mix.old.waiting < mix.old.room }
+    ensures { mix.new ≡ record mix.old { parts = mix.old.parts ++ part_of sound ∷ [] } }
+{
+    let Sound { timing, reader } = sound;
+    let part = match reader {
+        None => None,
+        Some(mut cursor) => {
+            cursor.see(timing.len);
+            Some(cursor)
+        }
+    };
+    mix.attach(part, timing);
+}
+
+// These sounds as the parts of a mix, in their order.
+fn attach_all(mix: &mut Mix<Vec<Sound>>, sounds: Vec<Sound>)
+    requires room { length mix.old.parts + length mix.old.waiting + length sounds.items ≤ mix.old.room }
+    ensures { mix.new ≡ record mix.old { parts = mix.old.parts ++ map part_of sounds.items } }
+{
+    let mut queue = VecDeque::from(sounds);
+    while let Some(sound) = queue.pop_front() {
+        attach_sound(mix, sound);
+    }
+}
+
+// A mix of these sounds. There may be 2^32 - 1 of them.
+fn begin_mix(alloc: Global, sounds: Vec<Sound>, timing: &Timing) -> Result<Work, Unused>
+    ensures begins { IfOk result (BeginsWork MixTask sounds.items timing.now) }
+    ensures left { IfErr result (AreLeft sounds.items) }
+{
+    let Ok(count) = u32::try_from(sounds.len()) else {
+        return Err(Unused::All(sounds));
+    };
+    match Mix::open(alloc, same_timing(timing), count, Vec::new(alloc)) {
+        Ok(mut mix) => {
+            attach_all(&mut mix, sounds);
+            Ok(Work::Mix(mix))
+        }
+        Err(_) => Err(Unused::All(sounds)),
+    }
 }
 
 // The last of these sounds, brought to another rate.
@@ -119,12 +184,12 @@ fn begin_make(
     make: Make,
     mut sounds: Vec<Sound>,
     timing: &Timing,
-) -> Result<Work, Cursor>
-    requires count { length sounds.items ≡ inputs_of_task (MadeTask make) }
+) -> Result<Work, Unused>
+    requires count { length sounds.items ≡ inputs_of make }
     requires task { (len : ℕ) × IsTask (MadeTask make) len }
     requires ready { IsReady (MadeTask make) sounds.items timing.now }
     ensures begins { IfOk result (BeginsWork (MadeTask make) sounds.items timing.now) }
-    ensures given_back { IfErr result (IsGivenBack sounds.items) }
+    ensures left { IfErr result (AreLeft sounds.items) }
 {
     match make {
         Make::Leaf(leaf) => Ok(Work::Leaf(LeafUnit::of(leaf))),
@@ -138,21 +203,22 @@ fn begin_make(
 /// How a task over these sounds begins, for a unit that is heard as `timing` says.
 ///
 /// # Errors
-/// The cursor of the only sound, where memory for a comb is missing.
+/// What is left of the sounds, where memory is missing.
 pub(crate) fn begin_work(
     alloc: Global,
     task: Task,
     mut sounds: Vec<Sound>,
     timing: &Timing,
-) -> Result<Work, Cursor>
-    requires count { length sounds.items ≡ inputs_of_task task }
+) -> Result<Work, Unused>
+    requires count { IsCount task (length sounds.items) }
     requires task { (len : ℕ) × IsTask task len }
     requires ready { IsReady task sounds.items timing.now }
     ensures begins { IfOk result (BeginsWork task sounds.items timing.now) }
-    ensures given_back { IfErr result (IsGivenBack sounds.items) }
+    ensures left { IfErr result (AreLeft sounds.items) }
 {
     match task {
         Task::Made(make) => begin_make(alloc, make, sounds, timing),
+        Task::Mix => begin_mix(alloc, sounds, timing),
         Task::Channel => Ok(Work::Channel(CopyUnit::of(last_input(&mut sounds), timing.start))),
     }
 }

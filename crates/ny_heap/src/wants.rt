@@ -35,7 +35,8 @@ pub(crate) struct Missing {
     pub(crate) place: u32,
 }
 
-/// The first input that is not computed far enough for a unit's next block, where none before place `from` is that.
+/// The first input that is not computed far enough for a unit's next block, where none before place `from` is that. Inputs at the front
+/// that read nothing any more are passed over.
 pub(crate) fn first_lacking(table: &Table, u: u32, from: u32) -> Option<Missing>
     requires table { IsTable table.now [] }
     requires there { IsThere table.now u }
@@ -46,7 +47,7 @@ pub(crate) fn first_lacking(table: &Table, u: u32, from: u32) -> Option<Missing>
     let unit = unit_of(table, u);
     let done = computed_next(table, u);
     let count = unit.work.inputs();
-    let begin = from.min(count);
+    let begin = from.max(unit.work.over()).min(count);
     for i in begin..count {
         if let Some(list) = lacking(table, unit, i, done) {
             return Some(Missing { list, place: i });

@@ -1,9 +1,11 @@
-ghost use Rattle.std.specs.Prelude.{◌≡◌, ℕ, ◌+◌, ◌<◌, ◌≤◌, ◌^◌, is_some, if◌then◌else◌, ℤ, List, length, option_copied, slice_index_or, pos};
+ghost use Rattle.std.specs.Prelude.{◌≡◌, ℕ, ◌+◌, ◌<◌, ◌≤◌, ◌^◌, is_some, if◌then◌else◌, ℤ, List, length, option_copied, slice_index_or, pos, None};
 ghost use Rattle.ny_units.specs.Inputs.{IsReader};
 ghost use Rattle.ny_heap.specs.Work.{kind_of, inputs_in, side_in, source_at, cursor_at, without_cursor_at, with_cursor_at, need_in, HasGiven, CanWork, ShowsAll, work_value, MovesOn, Recalls};
 
+use crate::sound::Sound;
 use ny_filters::FilterUnit;
 use ny_list::{Cursor, Reads};
+use ny_mix::Mix;
 use ny_num::Sample;
 use ny_units::{AbsUnit, CopyUnit, LeafUnit, PairUnit, ResampleUnit};
 use ny_wave::Waves;
@@ -18,6 +20,8 @@ pub(crate) enum Work {
     Resample(ResampleUnit),
     /// A filter, and the index where it begins.
     Filter(FilterUnit, u32),
+    /// A mix. No part waits so far.
+    Mix(Mix<Vec<Sound>>),
     Channel(CopyUnit),
 }
 
@@ -49,7 +53,19 @@ impl Work {
             Work::Abs(_) => 1,
             Work::Resample(_) => 1,
             Work::Filter(_, _) => 1,
+            Work::Mix(mix) => mix.parts(),
             Work::Channel(_) => 1,
+        }
+    }
+
+    /// How many inputs at the front have no cursor; more may have none. A mix of many parts that are over passes them over.
+    pub(crate) fn over(&self) -> u32
+        ensures inside { result ≤ inputs_in self.now }
+        ensures gone { (i : ℕ) → i < result → cursor_at self.now i ≡ None }
+    {
+        match self {
+            Work::Mix(mix) => mix.over(),
+            _ => 0,
         }
     }
 
@@ -64,6 +80,7 @@ impl Work {
             Work::Abs(unit) => unit.cursor(i),
             Work::Resample(unit) => unit.cursor(i),
             Work::Filter(unit, _) => unit.cursor(i),
+            Work::Mix(mix) => mix.cursor(i),
             Work::Channel(unit) => unit.cursor(i),
         }
     }
@@ -80,6 +97,7 @@ impl Work {
             Work::Abs(unit) => unit.take_cursor(i),
             Work::Resample(unit) => unit.take_cursor(i),
             Work::Filter(unit, _) => unit.take_cursor(i),
+            Work::Mix(mix) => mix.take_cursor(i),
             Work::Channel(unit) => unit.take_cursor(i),
         }
     }
@@ -96,6 +114,7 @@ impl Work {
             Work::Abs(unit) => unit.put_cursor(i, c),
             Work::Resample(unit) => unit.put_cursor(i, c),
             Work::Filter(unit, _) => unit.put_cursor(i, c),
+            Work::Mix(mix) => mix.put_cursor(i, c),
             Work::Channel(unit) => unit.put_cursor(i, c),
         }
     }
@@ -111,6 +130,7 @@ impl Work {
             Work::Abs(unit) => unit.need(i, done),
             Work::Resample(unit) => unit.need(i, done),
             Work::Filter(unit, _) => unit.need(i, done),
+            Work::Mix(mix) => mix.need(i, done),
             Work::Channel(unit) => unit.need(i, done),
         }
     }
@@ -132,6 +152,7 @@ impl Work {
             Work::Abs(unit) => unit.fill(reads, from, out),
             Work::Resample(unit) => unit.fill(reads, from, out),
             Work::Filter(unit, _) => unit.fill(reads, from, out),
+            Work::Mix(mix) => mix.fill(reads, from, out),
             Work::Channel(unit) => unit.fill(reads, from, out),
         }
     }

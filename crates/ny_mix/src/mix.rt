@@ -138,6 +138,14 @@ impl<B> Mix<B> {
         fill_parts(&self.parts, self.over, reads, m, out);
     }
 
+    /// How many parts at the front have no cursor; more may have none.
+    pub fn over(&self) -> u32
+        ensures inside { result ≤ length self.now.parts }
+        ensures gone { (i : ℕ) → i < result → cursor_at self.now.parts i ≡ None }
+    {
+        self.over as u32
+    }
+
     /// The cursor of a part; none where it had no sample, or its cursor was taken.
     pub fn cursor(&self, i: u32) -> Option<&Cursor>
         requires inside { i < length self.now.parts }

@@ -2,7 +2,7 @@ use Rattle.std.proofs.Common.{arith, ◌<◌, ◌∙◌, ap, map}
 use Rattle.ny_heap.specs.declared.sound.Sound.{Sound}
 use Rattle.ny_heap.proofs.GrowLemmas.{IsTable-grown}
 use Rattle.ny_heap.proofs.SoundLemmas.{cursors_in}
-use Rattle.ny_heap.proofs.GainLemmas.{given_taken, given_spent, lost_here, gained}
+use Rattle.ny_heap.proofs.GainLemmas.{left_taken, left_spent, lost_here, gained}
 use Rattle.ny_heap.proofs.adding.make_unit.Goals as goal
 
 pub returns-then-timing-eq0 : goal.returns-then-timing-eq0
@@ -11,9 +11,9 @@ returns-then-timing-eq0 c = (c.if-timing-eq0.true, lost_here c.args.table.now c.
 pub drop_sounds-requires-in-Err : goal.drop_sounds-requires-in-Err
 drop_sounds-requires-in-Err c = IsTable-grown c.args.table.now c.prepare.new.table c.prepare.ensures.grows (cursors_in c.args.sounds.items) c.requires.table
 
-pub drop_reader-requires : goal.drop_reader-requires
-drop_reader-requires c =
-    given_taken c.prepare.new.table c.args.sounds.items c.in-Err-begin_work.cursor c.in-Err-begin_work.ensures.given_back
+pub drop_unused-requires : goal.drop_unused-requires
+drop_unused-requires c =
+    left_taken c.prepare.new.table c.args.sounds.items c.in-Err-begin_work.unused c.in-Err-begin_work.ensures.left
     (IsTable-grown c.args.table.now c.prepare.new.table c.prepare.ensures.grows (cursors_in c.args.sounds.items) c.requires.table)
 
 pub returns-in-Ok-begin_work : goal.returns-in-Ok-begin_work
@@ -28,5 +28,5 @@ pub returns-in-Err-begin_work : goal.returns-in-Err-begin_work
 returns-in-Err-begin_work c = record {
   grown = c.prepare.new.table;
   grows = c.prepare.ensures.grows;
-  drops = given_spent c.prepare.new.table c.args.sounds.items c.in-Err-begin_work.cursor c.in-Err-begin_work.ensures.given_back c.drop_reader.new.table c.drop_reader.ensures;
+  drops = left_spent c.prepare.new.table c.drop_unused.new.table c.args.sounds.items c.in-Err-begin_work.unused c.in-Err-begin_work.ensures.left c.drop_unused.ensures;
 }

@@ -1,11 +1,12 @@
-use Rattle.std.proofs.Common.{List, ◌++◌, map, Ok, Err, sym, ap, subst, ◌∙◌}
+use Rattle.std.proofs.Common.{List, ◌++◌, length, map, Ok, Err, sym, ap, subst, ◌∙◌}
 use Rattle.ny_heap.specs.declared.sound.Sound.{Sound}
-use Rattle.ny_heap.specs.Heap.{HeapState, Kind, Channel, Waiting}
+use Rattle.ny_heap.specs.Heap.{HeapState, Kind, Waiting}
 use Rattle.ny_heap.specs.Means.{KeepsMeaning}
 use Rattle.ny_heap.specs.Reach.{IsTrimmed}
 use Rattle.ny_heap.specs.Steps.{AreHeld, sounds_of, without_sounds, Makes, MakesMeaning}
+use Rattle.ny_heap.specs.Tasks.{kind_of_task}
 use Rattle.ny_heap.specs.View.{state_of}
-use Rattle.ny_heap.proofs.MadeLemmas.{first_sound, on_err, are_taken, inside_made, laws_made, trimmed_made, keeps_made, makes, makes_meaning, all_parts, no_parts_wait, is_channel}
+use Rattle.ny_heap.proofs.MadeLemmas.{first_sound, on_err, are_taken, inside_made, laws_made, trimmed_made, keeps_made, makes, makes_meaning, all_parts, no_parts_wait, kind_is, count_is, task_is, ready_is}
 use Rattle.ny_heap.proofs.heap.Heap.make_mix.Goals as goal
 
 pub make_unit-requires-clause-table : goal.make_unit-requires-clause-table
@@ -14,7 +15,16 @@ make_unit-requires-clause-table g c =
     let all = all_parts c.args.parts.items c.args.waiting.items c.requires.waits in
     let held : AreHeld {B = g.row.B.Denot} (state_of i.table i.fills i.peak) c.args.parts.items =
     subst (AreHeld {B = g.row.B.Denot} (state_of i.table i.fills i.peak)) all (subst (λ h. AreHeld {B = g.row.B.Denot} h (c.args.parts.items ++ sounds_of (map (λ p. (p.0, p.1.items)) c.args.waiting.items))) (sym c.self.view_is) c.requires.inputs) in
-    are_taken g.row.B.Denot i.table i.table i.size i.fills i.peak i.out.items c.self.invariant Channel c.args.timing c.args.parts.items held
+    are_taken g.row.B.Denot i.table i.table i.size i.fills i.peak i.out.items c.self.invariant (kind_of_task c.mix_task.result) c.args.timing c.args.parts.items held
+
+pub make_unit-requires-clause-count : goal.make_unit-requires-clause-count
+make_unit-requires-clause-count g c = count_is c.args.channel c.mix_task.result (length c.args.parts.items) c.mix_task.ensures c.requires.channel
+
+pub make_unit-requires-clause-task : goal.make_unit-requires-clause-task
+make_unit-requires-clause-task g c = λ some. task_is c.args.channel c.mix_task.result c.args.timing.len c.mix_task.ensures
+
+pub make_unit-requires-clause-ready : goal.make_unit-requires-clause-ready
+make_unit-requires-clause-ready g c = λ some. ready_is c.args.channel c.mix_task.result c.args.parts.items c.args.timing c.mix_task.ensures
 
 pub invariant_of-self : goal.invariant_of-self
 invariant_of-self g c =
@@ -22,7 +32,7 @@ invariant_of-self g c =
     let all = all_parts c.args.parts.items c.args.waiting.items c.requires.waits in
     let held : AreHeld {B = g.row.B.Denot} (state_of i.table i.fills i.peak) c.args.parts.items =
     subst (AreHeld {B = g.row.B.Denot} (state_of i.table i.fills i.peak)) all (subst (λ h. AreHeld {B = g.row.B.Denot} h (c.args.parts.items ++ sounds_of (map (λ p. (p.0, p.1.items)) c.args.waiting.items))) (sym c.self.view_is) c.requires.inputs) in
-    inside_made g.row.B.Denot i.table c.make_unit.new.table i.size i.fills i.peak i.out.items c.self.invariant Channel c.args.timing c.args.parts.items held (Err c.in_err-made.field-0.0) c.in_err-made.ensures
+    inside_made g.row.B.Denot i.table c.make_unit.new.table i.size i.fills i.peak i.out.items c.self.invariant (kind_of_task c.mix_task.result) c.args.timing c.args.parts.items held (Err c.in_err-made.field-0.0) c.in_err-made.ensures
 
 pub returns-in_err-made-clause-laws : goal.returns-in_err-made-clause-laws
 returns-in_err-made-clause-laws g c =
@@ -30,7 +40,7 @@ returns-in_err-made-clause-laws g c =
     let all = all_parts c.args.parts.items c.args.waiting.items c.requires.waits in
     let held : AreHeld {B = g.row.B.Denot} (state_of i.table i.fills i.peak) c.args.parts.items =
     subst (AreHeld {B = g.row.B.Denot} (state_of i.table i.fills i.peak)) all (subst (λ h. AreHeld {B = g.row.B.Denot} h (c.args.parts.items ++ sounds_of (map (λ p. (p.0, p.1.items)) c.args.waiting.items))) (sym c.self.view_is) c.requires.inputs) in
-    laws_made g.row.B.Denot i.table c.make_unit.new.table i.size i.fills i.peak i.out.items c.self.invariant Channel c.args.timing c.args.parts.items held (Err c.in_err-made.field-0.0) c.in_err-made.ensures
+    laws_made g.row.B.Denot i.table c.make_unit.new.table i.size i.fills i.peak i.out.items c.self.invariant (kind_of_task c.mix_task.result) c.args.timing c.args.parts.items held (Err c.in_err-made.field-0.0) c.in_err-made.ensures
 
 pub returns-in_err-made-clause-released : goal.returns-in_err-made-clause-released
 returns-in_err-made-clause-released g c =
@@ -40,7 +50,7 @@ returns-in_err-made-clause-released g c =
     subst (AreHeld {B = g.row.B.Denot} (state_of i.table i.fills i.peak)) all (subst (λ h. AreHeld {B = g.row.B.Denot} h (c.args.parts.items ++ sounds_of (map (λ p. (p.0, p.1.items)) c.args.waiting.items))) (sym c.self.view_is) c.requires.inputs) in
     on_err c.from_residual.result (subst (λ ss. IsTrimmed {B = g.row.B.Denot} (without_sounds c.args.self.now ss) (state_of c.make_unit.new.table i.fills i.peak)) (sym all)
     (subst (λ h. IsTrimmed {B = g.row.B.Denot} (without_sounds h c.args.parts.items) (state_of c.make_unit.new.table i.fills i.peak)) c.self.view_is
-    (trimmed_made g.row.B.Denot i.table c.make_unit.new.table i.size i.fills i.peak i.out.items c.self.invariant Channel c.args.timing c.args.parts.items held c.in_err-made.ensures)))
+    (trimmed_made g.row.B.Denot i.table c.make_unit.new.table i.size i.fills i.peak i.out.items c.self.invariant (kind_of_task c.mix_task.result) c.args.timing c.args.parts.items held c.in_err-made.ensures)))
 
 pub returns-in_err-made-clause-keeps : goal.returns-in_err-made-clause-keeps
 returns-in_err-made-clause-keeps g c =
@@ -49,7 +59,7 @@ returns-in_err-made-clause-keeps g c =
     let held : AreHeld {B = g.row.B.Denot} (state_of i.table i.fills i.peak) c.args.parts.items =
     subst (AreHeld {B = g.row.B.Denot} (state_of i.table i.fills i.peak)) all (subst (λ h. AreHeld {B = g.row.B.Denot} h (c.args.parts.items ++ sounds_of (map (λ p. (p.0, p.1.items)) c.args.waiting.items))) (sym c.self.view_is) c.requires.inputs) in
     on_err c.from_residual.result (subst (λ h. KeepsMeaning {B = g.row.B.Denot} h (state_of c.make_unit.new.table i.fills i.peak)) c.self.view_is
-    (keeps_made g.row.B.Denot i.table c.make_unit.new.table i.size i.fills i.peak i.out.items c.self.invariant Channel c.args.timing c.args.parts.items held c.in_err-made.ensures))
+    (keeps_made g.row.B.Denot i.table c.make_unit.new.table i.size i.fills i.peak i.out.items c.self.invariant (kind_of_task c.mix_task.result) c.args.timing c.args.parts.items held c.in_err-made.ensures))
 
 pub invariant_of-self-2 : goal.invariant_of-self-2
 invariant_of-self-2 g c =
@@ -57,7 +67,7 @@ invariant_of-self-2 g c =
     let all = all_parts c.args.parts.items c.args.waiting.items c.requires.waits in
     let held : AreHeld {B = g.row.B.Denot} (state_of i.table i.fills i.peak) c.args.parts.items =
     subst (AreHeld {B = g.row.B.Denot} (state_of i.table i.fills i.peak)) all (subst (λ h. AreHeld {B = g.row.B.Denot} h (c.args.parts.items ++ sounds_of (map (λ p. (p.0, p.1.items)) c.args.waiting.items))) (sym c.self.view_is) c.requires.inputs) in
-    inside_made g.row.B.Denot i.table c.make_unit.new.table i.size i.fills i.peak i.out.items c.self.invariant Channel c.args.timing c.args.parts.items held (Ok c.in_ok-made.made) c.in_ok-made.ensures
+    inside_made g.row.B.Denot i.table c.make_unit.new.table i.size i.fills i.peak i.out.items c.self.invariant (kind_of_task c.mix_task.result) c.args.timing c.args.parts.items held (Ok c.in_ok-made.made) c.in_ok-made.ensures
 
 pub returns-clause-laws : goal.returns-clause-laws
 returns-clause-laws g c =
@@ -65,7 +75,7 @@ returns-clause-laws g c =
     let all = all_parts c.args.parts.items c.args.waiting.items c.requires.waits in
     let held : AreHeld {B = g.row.B.Denot} (state_of i.table i.fills i.peak) c.args.parts.items =
     subst (AreHeld {B = g.row.B.Denot} (state_of i.table i.fills i.peak)) all (subst (λ h. AreHeld {B = g.row.B.Denot} h (c.args.parts.items ++ sounds_of (map (λ p. (p.0, p.1.items)) c.args.waiting.items))) (sym c.self.view_is) c.requires.inputs) in
-    laws_made g.row.B.Denot i.table c.make_unit.new.table i.size i.fills i.peak i.out.items c.self.invariant Channel c.args.timing c.args.parts.items held (Ok c.in_ok-made.made) c.in_ok-made.ensures
+    laws_made g.row.B.Denot i.table c.make_unit.new.table i.size i.fills i.peak i.out.items c.self.invariant (kind_of_task c.mix_task.result) c.args.timing c.args.parts.items held (Ok c.in_ok-made.made) c.in_ok-made.ensures
 
 pub returns-clause-makes : goal.returns-clause-makes
 returns-clause-makes g c =
@@ -73,11 +83,11 @@ returns-clause-makes g c =
     let all = all_parts c.args.parts.items c.args.waiting.items c.requires.waits in
     let held : AreHeld {B = g.row.B.Denot} (state_of i.table i.fills i.peak) c.args.parts.items =
     subst (AreHeld {B = g.row.B.Denot} (state_of i.table i.fills i.peak)) all (subst (λ h. AreHeld {B = g.row.B.Denot} h (c.args.parts.items ++ sounds_of (map (λ p. (p.0, p.1.items)) c.args.waiting.items))) (sym c.self.view_is) c.requires.inputs) in
-    let kind = sym (is_channel c.args.channel c.requires.channel) in
+    let kind = kind_is c.args.channel c.mix_task.result c.mix_task.ensures in
     let none = sym (no_parts_wait c.args.waiting.items c.requires.waits) in
     subst (λ (p : HeapState g.row.B.Denot × Kind × List (Waiting g.row.B.Denot) × List Sound × Sound). Makes {B = g.row.B.Denot} p.0 (state_of c.make_unit.new.table i.fills i.peak) p.1 c.args.timing c.args.parts.items p.2 p.3 p.4)
     (λ k. (c.self.view_is k, kind k, none k, sym all k, (ap (first_sound c.in_ok-made.made) (sym c.same_timing-when.ensures) ∙ sym c.begin.ensures) k))
-    (makes g.row.B.Denot i.table c.make_unit.new.table i.size i.fills i.peak i.out.items c.self.invariant Channel c.args.timing c.args.parts.items held c.in_ok-made.made c.in_ok-made.ensures)
+    (makes g.row.B.Denot i.table c.make_unit.new.table i.size i.fills i.peak i.out.items c.self.invariant (kind_of_task c.mix_task.result) c.args.timing c.args.parts.items held c.in_ok-made.made c.in_ok-made.ensures)
 
 pub returns-clause-meaning : goal.returns-clause-meaning
 returns-clause-meaning g c =
@@ -85,8 +95,8 @@ returns-clause-meaning g c =
     let all = all_parts c.args.parts.items c.args.waiting.items c.requires.waits in
     let held : AreHeld {B = g.row.B.Denot} (state_of i.table i.fills i.peak) c.args.parts.items =
     subst (AreHeld {B = g.row.B.Denot} (state_of i.table i.fills i.peak)) all (subst (λ h. AreHeld {B = g.row.B.Denot} h (c.args.parts.items ++ sounds_of (map (λ p. (p.0, p.1.items)) c.args.waiting.items))) (sym c.self.view_is) c.requires.inputs) in
-    let kind = sym (is_channel c.args.channel c.requires.channel) in
+    let kind = kind_is c.args.channel c.mix_task.result c.mix_task.ensures in
     let none = sym (no_parts_wait c.args.waiting.items c.requires.waits) in
     subst (λ (p : HeapState g.row.B.Denot × Kind × List (Waiting g.row.B.Denot) × Sound). MakesMeaning {B = g.row.B.Denot} p.0 (state_of c.make_unit.new.table i.fills i.peak) p.1 c.args.timing c.args.parts.items p.2 p.3)
     (λ k. (c.self.view_is k, kind k, none k, (ap (first_sound c.in_ok-made.made) (sym c.same_timing-when.ensures) ∙ sym c.begin.ensures) k))
-    (makes_meaning g.row.B.Denot i.table c.make_unit.new.table i.size i.fills i.peak i.out.items c.self.invariant Channel c.args.timing c.args.parts.items held c.in_ok-made.made c.in_ok-made.ensures)
+    (makes_meaning g.row.B.Denot i.table c.make_unit.new.table i.size i.fills i.peak i.out.items c.self.invariant (kind_of_task c.mix_task.result) c.args.timing c.args.parts.items held c.in_ok-made.made c.in_ok-made.ensures)

@@ -3,10 +3,12 @@ use Rattle.ny_kernels.specs.Operations.{operation}
 use Rattle.ny_num.specs.Numbers.{sample_abs}
 use Rattle.ny_units.specs.Playing.{leaf_value}
 use Rattle.ny_units.specs.Inputs.{start_of}
+use Rattle.ny_num.specs.Mix.{sum_at}
+use Rattle.ny_mix.specs.Mixes.{sounds_of}
 use Rattle.ny_heap.specs.declared.work.Work.{Work}
 use Rattle.ny_heap.specs.declared.work.Work.TheVariants.{Resample as ResampleWork, Filter as FilterWork}
 use Rattle.ny_heap.specs.Work.{CanWork, MovesOn, Recalls, work_value, heard_in}
-use Rattle.ny_heap.proofs.WorkLemmas.{read_to, shows_input, sample_of, sample_at, filter_sample, filter_recalls, filter_moves, resample_sample, resample_recalls, resample_moves}
+use Rattle.ny_heap.proofs.WorkLemmas.{read_to, parts_to, shows_input, sample_of, sample_at, filter_sample, filter_recalls, filter_moves, resample_sample, resample_recalls, resample_moves}
 use Rattle.ny_heap.proofs.work.Work.fill.Goals as goal
 
 pub fill-requires-in-Pair-clause-left : goal.fill-requires-in-Pair-clause-left
@@ -31,6 +33,13 @@ fill-requires-in-Channel c = record {
   ready =
       read_to c.args.reads.now c.in-Channel.unit.input c.in-Channel.unit.start c.args.from (length c.args.out.now)
       (subst (λ (w : Work). CanWork c.args.reads.now w c.args.from (c.args.from + length c.args.out.now)) c.in-Channel.is c.requires.ready);
+}
+
+pub fill-requires-in-Mix : goal.fill-requires-in-Mix
+fill-requires-in-Mix c = record {
+  ready =
+      parts_to c.args.reads.now c.in-Mix.mix c.args.from (length c.args.out.now)
+      (subst (λ (w : Work). CanWork c.args.reads.now w c.args.from (c.args.from + length c.args.out.now)) c.in-Mix.is c.requires.ready);
 }
 
 pub returns-in-Leaf-clause-samples : goal.returns-in-Leaf-clause-samples
@@ -58,6 +67,13 @@ returns-in-Channel-clause-samples c = λ whole shows k inside.
     sample_of (heard_in whole p.input) p.start c.args.from (length c.args.out.now) k c.fill-in-Channel.new.out
     (c.fill-in-Channel.ensures.samples _ (shows_input c.args.reads.now whole p.input shows)) inside
     ∙ ap (λ (w : Work). work_value w whole c.args.from (c.args.from + k)) (sym c.in-Channel.is)
+
+pub returns-in-Mix-clause-samples : goal.returns-in-Mix-clause-samples
+returns-in-Mix-clause-samples c = λ whole shows k inside.
+    let m = c.in-Mix.mix in
+    sample_of (sum_at (sounds_of m.timing.rate whole m.parts)) m.timing.start c.args.from (length c.args.out.now) k c.fill-in-Mix.new.out
+    (c.fill-in-Mix.ensures.samples whole (λ i c inside is. shows c.list)) inside
+    ∙ ap (λ (w : Work). work_value w whole c.args.from (c.args.from + k)) (sym c.in-Mix.is)
 
 pub returns-in-Filter-clause-moves : goal.returns-in-Filter-clause-moves
 returns-in-Filter-clause-moves c =
