@@ -6,6 +6,7 @@
 
 mod built;
 mod channels;
+mod cue;
 mod envelope;
 mod expression;
 mod filter;
