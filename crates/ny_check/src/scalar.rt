@@ -1,4 +1,4 @@
-ghost use Rattle.std.specs.Prelude.{◌≡◌, ◌<◌, ◌≤◌, length, take, IfOk, OnOk, map, zip, [], ◌∷◌, ◌++◌, ℕ};
+ghost use Rattle.std.specs.Prelude.{◌≡◌, ◌<◌, ◌≤◌, length, take, IfOk, OnOk, OnErr, map, zip, [], ◌∷◌, ◌++◌, ℕ};
 ghost use Rattle.ny_check.specs.Code.{AllBelow, BindsBelow};
 ghost use Rattle.ny_check.specs.Values.{Scalars, scalar_named, scalar_in, scalars_of, scalar_of, scalars_after, argument, number_of, test_of};
 
@@ -48,6 +48,7 @@ fn scalar(
     requires { e.0 < length p.now.nodes }
     ensures value { IfOk result (λ s. s ≡ scalar_of p.now e.0 names.old) }
     ensures same { OnOk result (names.new ≡ names.old) }
+    ensures kept { OnErr result (take (length names.old) names.new ≡ names.old) }
 {
     match p.node(e) {
         Node::Number(v) => Ok(Scalar::Number(*v)),
@@ -136,6 +137,7 @@ fn argument_scalars(
     requires below { AllBelow call.0 arguments.now }
     ensures values { IfOk result (λ scalars. scalars.items ≡ map (argument (scalar_of p.now) names.old) arguments.now) }
     ensures same { OnOk result (names.new ≡ names.old) }
+    ensures kept { OnErr result (take (length names.old) names.new ≡ names.old) }
 {
     let mut scalars = Vec::new(alloc);
     for argument in arguments {
@@ -157,7 +159,7 @@ fn bind_scalars(
     requires block { block.0 ≤ length p.now.nodes }
     requires below { BindsBelow block.0 binds.now }
     ensures bound { OnOk result (names.new ≡ scalars_after (scalar_of p.now) binds.now names.old) }
-    ensures kept { OnOk result (take (length names.old) names.new ≡ names.old) }
+    ensures kept { take (length names.old) names.new ≡ names.old }
 {
     for (name, value) in binds {
         let scalar = scalar(alloc, p, *value, names)?;
@@ -197,6 +199,25 @@ impl Program {
         ensures { IfOk result (λ s. s ≡ scalar_of self.now value.0 []) }
     {
         global_scalar(alloc, self, value)
+    }
+
+    /// What an expression is under these names, with its value where it is a number or a test
+    /// (`docs/DEFINITIONS.md`, "Values"). What it binds meanwhile stands after them.
+    ///
+    /// # Errors
+    /// `AllocError` where memory is missing. The names are still there, and others may stand after them.
+    pub fn scalar_under(
+        &self,
+        alloc: Global,
+        e: ExprId,
+        names: &mut Scope<NameId, Scalar>,
+    ) -> Result<Scalar, AllocError>
+        requires { e.0 < length self.now.nodes }
+        ensures value { IfOk result (λ s. s ≡ scalar_of self.now e.0 names.old) }
+        ensures same { OnOk result (names.new ≡ names.old) }
+        ensures kept { OnErr result (take (length names.old) names.new ≡ names.old) }
+    {
+        scalar(alloc, self, e, names)
     }
 
     /// What an expression is under these binds, with its value where it is a number or a test
