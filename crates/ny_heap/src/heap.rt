@@ -178,6 +178,13 @@ impl<B> Heap<B> {
         self.size - self.table.store.free()
     }
 
+    /// How many places there are for units, taken or not. No unit stands on a tower of so many others.
+    pub fn places(&self) -> usize
+        ensures { result ≡ length self.now.nodes }
+    {
+        self.table.units.as_slice().len()
+    }
+
     /// How many fills succeeded, or 2^64 - 1 where that is greater.
     pub fn fills(&self) -> u64
         ensures fills { result ≡ self.now.fills }
