@@ -10,3 +10,4 @@ pub mod NameLemmas
 pub mod PlaceLemmas
 pub mod BeforeLemmas
 pub mod SpendLemmas
+pub mod HeldLemmas

@@ -1,5 +1,5 @@
 -- Blocks and calls: binds and arguments are in hand while the body is evaluated, and are given up after it.
-use Rattle.std.proofs.Common.{◌≡◌, ℕ, ◌<◌, List, [], ◌∷◌, ◌++◌, length, map, refl, sym, ap, subst, ◌∙◌}
+use Rattle.std.proofs.Common.{◌≡◌, ℕ, zero, suc, ◌<◌, List, [], ◌∷◌, ◌++◌, length, take, map, refl, sym, ap, subst, ◌∙◌}
 use Rattle.std.specs.Prelude.{zip}
 use Rattle.std.proofs.lemmas.List.{append_assoc, append-nil}
 use Rattle.ny_num.specs.Sound as sounds
@@ -37,6 +37,17 @@ value_agree w l (SoundOf s) f g same = (refl, same, tt)
 value_sounds : (v : Value Sound) (f g : Whole → sounds.Sound) → sounds_in (value_items v f) ≡ sounds_in (value_items v g)
 value_sounds (Number k) f g = refl
 value_sounds (SoundOf s) f g = refl
+
+-- what has no parameter is not evaluated
+pub below_first : (k n : ℕ) (es : List ExprId) → AllBelow n es → AllBelow n (take k es)
+below_first zero n es below = tt
+below_first (suc k) n [] below = tt
+below_first (suc k) n (e ∷ es) below = (below.0, below_first k n es below.1)
+
+zip_first : {A B C : Type 0} (f : B → C) (xs : List A) (es : List B) → zip xs (map f (take (length xs) es)) ≡ zip xs (map f es)
+zip_first f [] es = refl
+zip_first f (x ∷ xs) [] = refl
+zip_first {A} {B} {C} f (x ∷ xs) (e ∷ es) = ap (λ (rest : List (A × C)). (x, f e) ∷ rest) (zip_first f xs es)
 
 module _ (code : Code) where
   abbrev bind_sound : Env → ExprId → (Whole → Bound) → Whole → sounds.Sound
@@ -176,11 +187,12 @@ module _ (code : Code) where
 
       pub call_comes : (params : List NameId) (body : ℕ) (es : List ExprId) (env : Env) (names : Names) (old new : HeapState Branch) (s : Sound) → AllBelow (length code.nodes) es → body < length code.nodes → HeapLaws old → AreNamed old names → CallTurn D code params body es env names old new s → Comes (part_is code) old new (item s (λ w. meaning code body env (zip params (map (value_of code (meaning code) env (bound_in w names)) es))) ∷ [])
       call_comes params body es env names old new s below inside laws named step =
-          let items : List Item = arg_items env names es step.values in
-          let args = args_come env names es old step.mid step.values below laws named step.arguments in
-          let sounds_are = arg_sounds env names es old step.mid step.values step.arguments in
+          let given : List ExprId = take (length params) es in
+          let items : List Item = arg_items env names given step.values in
+          let args = args_come env names given old step.mid step.values (below_first (length params) (length code.nodes) es below) laws named step.arguments in
+          let sounds_are = arg_sounds env names given old step.mid step.values step.arguments in
           let seen : AreNamed step.mid (zip params step.values) = named_zip step.mid params step.values (subst (λ ss. AllBegin step.mid ss) (sym sounds_are) args.hand.begin) in
           let within = law body env (zip params step.values) step.mid step.end s step.inside inside args.hand.laws seen in
           let all = comes_one (part_is code) old step.mid step.end items s (λ l. meaning code body env (bound_in l (zip params step.values))) (λ w. meaning code body env (zip params (map (value_of code (meaning code) env (bound_in w names)) es)))
-          (λ w l means extends are. ap (meaning code body env) (bound_zip l params step.values ∙ ap (zip params) (args_are env names w l es old step.mid step.values step.arguments are))) args within in
+          (λ w l means extends are. ap (meaning code body env) (bound_zip l params step.values ∙ (ap (zip params) (args_are env names w l given old step.mid step.values step.arguments are) ∙ zip_first (value_of code (meaning code) env (bound_in w names)) params es))) args within in
           comes_released (part_is code) old step.end new items (item s (λ w. meaning code body env (zip params (map (value_of code (meaning code) env (bound_in w names)) es))) ∷ []) (sounds_of_values step.values) laws sounds_are all step.given_up

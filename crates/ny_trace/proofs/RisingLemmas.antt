@@ -1,5 +1,5 @@
 -- How high each family of nodes stands: operations, blocks and calls.
-use Rattle.std.proofs.Common.{◌≡◌, ℕ, ◌+◌, ◌*◌, ◌<◌, ◌≤◌, max, map, List, [], ◌∷◌, ◌++◌, length, Option, None, refl, sym, ap, subst, ◌∙◌, arith}
+use Rattle.std.proofs.Common.{◌≡◌, ℕ, ◌+◌, ◌*◌, ◌<◌, ◌≤◌, max, map, List, [], ◌∷◌, ◌++◌, length, Option, None, refl, sym, ap, subst, ◌∙◌, arith, zero, suc, take}
 use Rattle.std.specs.Prelude.{zip, ℤ, pos}
 use Rattle.std.specs.List.{range_with_len}
 use Rattle.ny_num.specs.declared.rate.Rate.{Rate}
@@ -28,7 +28,7 @@ use Rattle.std.proofs.lemmas.List.{append_assoc, append-nil}
 use Rattle.ny_trace.proofs.MixLemmas.{AreParts, parts_kept, parts_come, part_sounds}
 use Rattle.ny_hands.proofs.NameLemmas.{named_kept, named_append, named_among}
 use Rattle.ny_trace.proofs.ValueLemmas.{value_comes}
-use Rattle.ny_trace.proofs.BlockLemmas.{binds_come, bind_sounds_are, args_come, arg_sounds}
+use Rattle.ny_trace.proofs.BlockLemmas.{binds_come, bind_sounds_are, below_first, args_come, arg_sounds}
 use Rattle.ny_hands.proofs.SpendLemmas.{hand_brought}
 use Rattle.ny_trace.proofs.HeightLemmas.{low_append, low_first, low_last, low_more, low_later, from_trimmed, stands_from, stands_none, stands_more, stands_wider, stands_released, stands_seq, step_made, step_brought, both_stands}
 
@@ -193,15 +193,23 @@ module _ (code : Code) (D : Trace) (law : IsLawful code D) (tall : ℕ → ℕ) 
   zip_named h (x ∷ xs) (Number k ∷ vs) b = (tt, zip_named h xs vs b)
   zip_named h (x ∷ xs) (SoundOf s ∷ vs) b = (b.0, zip_named h xs vs b.1)
 
+  greatest_first : (k : ℕ) (es : List ExprId) → greatest tall (take k es) ≤ greatest tall es
+  greatest_first zero es = omega arith
+  greatest_first (suc k) [] = omega arith
+  greatest_first (suc k) (e ∷ es) = omega (arith, greatest_first k es)
+
   pub call_stands : (params : List NameId) (body : ℕ) (es : List ExprId) (env : Env) (names : Names) (old new : HeapState Branch) (s : Sound) → AllBelow (length code.nodes) es → body < length code.nodes → HeapLaws old → AreNamed old names → CallTurn D code params body es env names old new s → (rank : ℕ → ℕ) (base : ℕ) → Ranks tall old rank → AreLow rank base (sounds_among names) → Stands tall old new rank (base + (greatest tall es + tall body)) (s ∷ [])
   call_stands params body es env names old new s below inside laws named step rank base ranks low =
-      let top = base + greatest tall es in
-      let comes = args_come code D law env names es old step.mid step.values below laws named step.arguments in
-      let h1 : Hand old step.mid (sounds_of_values step.values) = subst (λ ss. Hand old step.mid ss) (sym (arg_sounds code D law env names es old step.mid step.values step.arguments)) comes.hand in
-      let p1 = args_stand env names es old step.mid step.values below laws named step.arguments rank base ranks low in
+      let given : List ExprId = take (length params) es in
+      let fewer = greatest_first (length params) es in
+      let low_given = below_first (length params) (length code.nodes) es below in
+      let top = base + greatest tall given in
+      let comes = args_come code D law env names given old step.mid step.values low_given laws named step.arguments in
+      let h1 : Hand old step.mid (sounds_of_values step.values) = subst (λ ss. Hand old step.mid ss) (sym (arg_sounds code D law env names given old step.mid step.values step.arguments)) comes.hand in
+      let p1 = args_stand env names given old step.mid step.values low_given laws named step.arguments rank base ranks low in
       let p2 = rising body env (zip params step.values) step.mid step.end s step.inside inside h1.laws (zip_named step.mid params step.values h1.begin) p1.later top p1.ranks (zip_low p1.later top params step.values p1.in_hand) in
       stands_released tall old step.end new rank (base + (greatest tall es + tall body)) (sounds_of_values step.values) (s ∷ [])
-      (stands_more tall old step.mid step.end rank top (top + tall body) (base + (greatest tall es + tall body)) (sounds_of_values step.values) (s ∷ []) (omega arith) (omega arith) h1 p1 p2) step.given_up
+      (stands_more tall old step.mid step.end rank top (top + tall body) (base + (greatest tall es + tall body)) (sounds_of_values step.values) (s ∷ []) (omega (arith, fewer)) (omega (arith, fewer)) h1 p1 p2) step.given_up
 
   -- ---- parts together
 

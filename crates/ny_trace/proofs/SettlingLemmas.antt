@@ -1,5 +1,5 @@
 -- Evaluation leaves no part that is due.
-use Rattle.std.proofs.Common.{◌≡◌, ◌⊎◌, inl, inr, ℕ, zero, suc, ◌+◌, ◌*◌, ◌≤◌, List, [], ◌∷◌, ◌++◌, map, Option, None, Some, refl, sym, ap, subst, ◌∙◌, arith}
+use Rattle.std.proofs.Common.{◌≡◌, ◌⊎◌, inl, inr, ℕ, zero, suc, ◌+◌, ◌*◌, ◌≤◌, List, [], ◌∷◌, ◌++◌, map, Option, None, Some, refl, sym, ap, subst, ◌∙◌, arith, length, take}
 use Rattle.std.specs.Prelude.{zip, get_or, if◌then◌else◌, Bool, true, false, ℤ, pos}
 use Rattle.std.proofs.lemmas.Bool.{cases_eq}
 use Rattle.ny_num.specs.Grid.{index_at}
@@ -193,7 +193,7 @@ module _ (code : Code) (D : Trace) (law : IsSettling D) where
   settled_node e (node.Block bs a) env names old new s step all = settled_released step.end new (sounds_among step.added) step.given_up (law a.0 env (names ++ step.added) step.mid step.end s step.body (settled_binds env bs names old step.mid step.added step.binds all))
   settled_node e (node.Call f es) env names old new s step all =
       settled_released step.end new (sounds_of_values step.values) step.given_up
-      (law (function_at code f.0).body.0 env (zip (function_at code f.0).params step.values) step.mid step.end s step.inside (settled_values env names es old step.mid step.values step.arguments all))
+      (law (function_at code f.0).body.0 env (zip (function_at code f.0).params step.values) step.mid step.end s step.inside (settled_values env names (take (length (function_at code f.0).params) es) old step.mid step.values step.arguments all))
   settled_node e (node.Cue a) env names old new s step all =
       settled_louder step.cued.mid new (is_one env.loud) env.loud step.cued.later s step.cued.louder (settled_placed step.mid step.cued.mid (cue_timing env) step.part step.cued.later step.cued.places (law a.0 env names old step.mid step.part step.evaluates all))
   settled_node e (node.Mix order.Together es) env names old new s step all = settled_sim (parts_of names es) env old new s step all

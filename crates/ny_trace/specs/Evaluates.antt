@@ -1,5 +1,5 @@
 -- Evaluation as one trace of calls of a heap. What it means, what it leaves alone and how high its units stand follow from it.
-use Rattle.std.specs.Prelude.{◌≡◌, ◌⊎◌, ◌+◌, ◌*◌, ◌≤◌, ℕ, zero, suc, Bool, true, false, List, [], ◌∷◌, ◌++◌, map, zip, get_or, if◌then◌else◌, Option, None, Some, ℤ, pos}
+use Rattle.std.specs.Prelude.{◌≡◌, ◌⊎◌, ◌+◌, ◌*◌, ◌≤◌, ℕ, zero, suc, Bool, true, false, List, [], ◌∷◌, ◌++◌, map, zip, get_or, if◌then◌else◌, Option, None, Some, ℤ, pos, length, take}
 use Rattle.std.specs.List.{range_with_len}
 use Rattle.ny_num.specs.Numbers.{sat_sample}
 use Rattle.ny_num.specs.Grid.{index_at}
@@ -95,11 +95,12 @@ sounds_of_values [] = []
 sounds_of_values (Number v ∷ vs) = sounds_of_values vs
 sounds_of_values (Sound s ∷ vs) = s ∷ sounds_of_values vs
 
+-- the arguments of the parameters, in the caller's names, and then the body in theirs alone. Then all arguments are given up
 pub record CallTurn (D : Trace) (code : Code) (params : List NameId) (body : ℕ) (es : List ExprId) (env : Env) (names : Names) (old new : HeapState Branch) (s : Handle) : Type 0 where
   pub values : List (Value Handle)
   pub mid : HeapState Branch
   pub end : HeapState Branch
-  pub arguments : ValuesTurn D code env names es old mid values
+  pub arguments : ValuesTurn D code env names (take (length params) es) old mid values
   pub inside : D body env (zip params values) mid end s
   pub given_up : ReleasesAll end new (sounds_of_values values)
 
