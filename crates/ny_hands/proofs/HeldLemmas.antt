@@ -88,9 +88,10 @@ hand_last old new s others c = hand_turned old new (s ∷ []) others c
 pub held_among : {B : Type 0} (old new : HeapState B) (names : Names) (others : List Sound) → Hand old new (sounds_among names ++ others) → AllHeld new names
 held_among old new [] others c = tt
 held_among old new ((x, Number k) ∷ bs) others c = (tt, held_among old new bs others c)
-held_among {B} old new ((x, SoundOf s) ∷ bs) others c =
-    ((c.begin.0.place, hand_held old new s (sounds_among bs ++ others) c),
-    held_among old new bs (others ++ s ∷ []) (subst (λ ss. Hand old new ss) (append_assoc (sounds_among bs) others (s ∷ [])) (hand_last old new s (sounds_among bs ++ others) c)))
+held_among {B} old new ((x, SoundOf s) ∷ bs) others c = (
+  (c.begin.0.place, hand_held old new s (sounds_among bs ++ others) c),
+  held_among old new bs (others ++ s ∷ []) (subst (λ ss. Hand old new ss) (append_assoc (sounds_among bs) others (s ∷ [])) (hand_last old new s (sounds_among bs ++ others) c)),
+)
 
 -- ---- sounds that are given up one after another
 
