@@ -8,7 +8,7 @@ use ny_num::Timing;
 ///
 /// It is spent by the calls that take it. One that is merely dropped stays counted and keeps its
 /// blocks.
-#[derive(Debug, Drop)]
+#[derive(Drop)]
 pub struct Sound {
     /// When it is heard. Its length is how many samples it shows.
     pub timing: Timing,

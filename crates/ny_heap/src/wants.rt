@@ -29,7 +29,7 @@ fn lacking(table: &Table, unit: &Unit, i: u32, done: u32) -> Option<u32>
 }
 
 /// An input that is not computed far enough: the list that it reads, and its place among its unit's inputs.
-#[derive(Clone, Copy, Debug, PartialEq, Eq)]
+#[derive(Clone, Copy)]
 pub(crate) struct Missing {
     pub(crate) list: u32,
     pub(crate) place: u32,
