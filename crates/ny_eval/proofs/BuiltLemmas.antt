@@ -113,9 +113,6 @@ module _ (code : Code) (e : ℕ) where
     pub sign_part : (a : ExprId) → here ≡ node.Neg a → built code a.0 ≡ true
     sign_part a is = (part_built e a.0 (built code) (built_at (node.Neg a) (sym found ∙ is) builds)).1
 
-    pub cue_part : (a : ExprId) → here ≡ node.Cue a → built code a.0 ≡ true
-    cue_part a is = (part_built e a.0 (built code) (built_at (node.Cue a) (sym found ∙ is) builds)).1
-
     pub effect_part : (w : Effect) (a : ExprId) (es : List ExprId) → here ≡ node.Effect w a es → built code a.0 ≡ true
     effect_part w a es is = (part_built e a.0 (built code) (more_true es (below e false (built code)) (below e false (built code) a.0) (built_at (node.Effect w a es) (sym found ∙ is) builds))).1
 

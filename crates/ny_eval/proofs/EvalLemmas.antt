@@ -25,7 +25,7 @@ use Rattle.ny_hands.specs.Frames.{Names}
 use Rattle.ny_hands.specs.Hands.{Hand, AreNamed}
 use Rattle.ny_hands.proofs.HandLemmas.{hand_none, hand_more}
 use Rattle.ny_hands.proofs.NameLemmas.{named_kept}
-use Rattle.ny_trace.specs.Evaluates.{NodeTurn, IsNoNumber, ValueTurn, JoinTurn, OperationTurn, SignTurn, LeafTurn, EffectTurn, CueTurn, Evaluates, numbers_in, sounds_of_values}
+use Rattle.ny_trace.specs.Evaluates.{NodeTurn, IsNoNumber, ValueTurn, JoinTurn, OperationTurn, SignTurn, LeafTurn, EffectTurn, Evaluates, numbers_in, sounds_of_values}
 use Rattle.ny_trace.proofs.StepLemmas.{lifted, value_lifted, step_at}
 use Rattle.ny_eval.specs.Built.{built_node, built}
 use Rattle.ny_eval.specs.Values.{number_in}
@@ -92,9 +92,6 @@ module _ (code : Code) (e : ℕ) where
   pub sign_below : (a : ExprId) (here : Node) → here ≡ node.Neg a → IsBelow code.functions e here → a.0 < e
   sign_below a here is ordered = subst (λ n. IsBelow code.functions e n) is ordered
 
-  pub cue_below : (a : ExprId) (here : Node) → here ≡ node.Cue a → IsBelow code.functions e here → a.0 < e
-  cue_below a here is ordered = subst (λ n. IsBelow code.functions e n) is ordered
-
   pub effect_below : (w : Effect) (a : ExprId) (es : List ExprId) (here : Node) → here ≡ node.Effect w a es → IsBelow code.functions e here → a.0 < e
   effect_below w a es here is ordered = (subst (λ n. IsBelow code.functions e n) is ordered).0
 
@@ -130,9 +127,6 @@ module _ (code : Code) (e : ℕ) (here : Node) (env : Env) (names : Names) (old 
   pub sign_arm : (a : ExprId) → here ≡ node.Neg a → ((n : ℕ) → a.0 < n → SignTurn (Evaluates code n) code a env names old new s) → Evaluates code (e + 1) e env names old new s
   sign_arm a is turn = step_at code e here env names old new s found (node.Neg a) is (turn e (subst (λ n. IsBelow code.functions e n) is ordered))
 
-  pub cue_arm : (a : ExprId) → here ≡ node.Cue a → ((n : ℕ) → a.0 < n → CueTurn (Evaluates code n) a env names old new s) → Evaluates code (e + 1) e env names old new s
-  cue_arm a is turn = step_at code e here env names old new s found (node.Cue a) is (turn e (subst (λ n. IsBelow code.functions e n) is ordered))
-
   -- its numbers stand in a slice
   pub leaf_arm : (w : Generator) (es slice : List ExprId) → here ≡ node.Leaf w es → slice ≡ es → LeafTurn w env (numbers_in code names slice) old new s → Evaluates code (e + 1) e env names old new s
   leaf_arm w es slice is same turn = step_at code e here env names old new s found (node.Leaf w es) is (subst (λ xs. LeafTurn w env (numbers_in code names xs) old new s) same turn)
@@ -158,7 +152,7 @@ module _ (code : Code) (e : ℕ) (here : Node) (env : Env) (names : Names) (old 
       (lifted code (a.0 + 1) e a.0 changed names old new s (omega (arith, under.1)) turn))
 
   -- what else can be played is a number or a test
-  module _ (not_pair : (op : Op) (a b : ExprId) → here ≡ node.Pair op a b → ⊥) (not_neg : (a : ExprId) → here ≡ node.Neg a → ⊥) (not_leaf : (w : Generator) (es : List ExprId) → here ≡ node.Leaf w es → ⊥) (not_effect : (w : Effect) (part : ExprId) (es : List ExprId) → here ≡ node.Effect w part es → ⊥) (not_cue : (a : ExprId) → here ≡ node.Cue a → ⊥) (not_if : (c a b : ExprId) → here ≡ node.If c a b → ⊥) (not_change : (c : Change) (a : ExprId) → here ≡ node.Change c a → ⊥) (silent : IsSilent old new env.sound_rate s) where
+  module _ (not_pair : (op : Op) (a b : ExprId) → here ≡ node.Pair op a b → ⊥) (not_neg : (a : ExprId) → here ≡ node.Neg a → ⊥) (not_leaf : (w : Generator) (es : List ExprId) → here ≡ node.Leaf w es → ⊥) (not_effect : (w : Effect) (part : ExprId) (es : List ExprId) → here ≡ node.Effect w part es → ⊥) (not_if : (c a b : ExprId) → here ≡ node.If c a b → ⊥) (not_change : (c : Change) (a : ExprId) → here ≡ node.Change c a → ⊥) (silent : IsSilent old new env.sound_rate s) where
     silent_turn : (known : ℕ → Bool) (at : Node) → here ≡ at → built_node at known ≡ true → NodeTurn (Evaluates code e) code e at env names old new s
     silent_turn known (node.Number v) is builds = silent
     silent_turn known (node.Local x) is builds = not_built builds
@@ -175,7 +169,7 @@ module _ (code : Code) (e : ℕ) (here : Node) (env : Env) (names : Names) (old 
     silent_turn known (node.If c a b) is builds = absurd (not_if c a b is)
     silent_turn known (node.Leaf w es) is builds = absurd (not_leaf w es is)
     silent_turn known (node.Effect w a es) is builds = absurd (not_effect w a es is)
-    silent_turn known (node.Cue a) is builds = absurd (not_cue a is)
+    silent_turn known (node.Cue a) is builds = not_built builds
     silent_turn known (node.Mix o es) is builds = not_built builds
     silent_turn known (node.Repeat o x k a) is builds = not_built builds
     silent_turn known (node.Change c a) is builds = absurd (not_change c a is)

@@ -12,6 +12,5 @@ pub mod LeafLemmas
 pub mod EnvelopeLemmas
 pub mod ShapeLemmas
 pub mod PlayedLemmas
-pub mod CuedLemmas
 pub mod EvalLemmas
 pub mod ChannelLemmas

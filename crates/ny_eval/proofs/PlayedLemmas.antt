@@ -1,5 +1,5 @@
 -- The laws of a trace of what can be played: no sequence is met, so none of its parts keeps names.
-use Rattle.std.proofs.Common.{◌≡◌, inl, inr, ℕ, zero, suc, ◌+◌, ◌≤◌, Bool, true, false, if◌then◌else◌, List, [], ◌∷◌, refl, sym, ap, subst, ◌∙◌, arith, ℤ, pos}
+use Rattle.std.proofs.Common.{◌≡◌, inl, inr, ℕ, zero, suc, ◌+◌, ◌≤◌, Bool, true, false, if◌then◌else◌, List, [], ◌∷◌, refl, sym, ap, subst, ◌∙◌, arith, pos}
 use Rattle.std.specs.Prelude.{◌&&◌}
 use Rattle.std.proofs.lemmas.Bool.{cases_eq}
 use Rattle.ny_num.specs.declared.rate.Rate.{Rate}
@@ -14,7 +14,6 @@ use Rattle.ny_check.specs.declared.value.Value.{Value}
 use Rattle.ny_check.specs.declared.value.Value.TheVariants.{Number, Sound as SoundOf}
 use Rattle.ny_check.specs.Code.{Code, node_at as node_in, IsBelow, IsOrdered}
 use Rattle.ny_check.specs.Values.{scalars_of, number_of, test_of}
-use Rattle.ny_check.specs.Behaviours.{is_one, cue_timing}
 use Rattle.ny_check.specs.Families.{changed_env}
 use Rattle.ny_check.specs.Recursion.{below}
 use Rattle.ny_check.specs.Meaning.{Bound, meaning, sound_node}
@@ -24,13 +23,13 @@ use Rattle.ny_heap.specs.Heap.{Kind, Node, HeapState, node_at}
 use Rattle.ny_heap.specs.Reach.{IsTrimmed}
 use Rattle.ny_heap.specs.Steps.{without_sounds, new_node}
 use Rattle.ny_hands.specs.declared.branch.Branch.{Branch}
-use Rattle.ny_hands.specs.Calls.{MakesUnit, Places, Brings, Stay, Change}
+use Rattle.ny_hands.specs.Calls.{MakesUnit, Brings, Stay, Change}
 use Rattle.ny_hands.specs.Frames.{Names, bound_in, part_is}
 use Rattle.ny_hands.proofs.OptionLemmas.{same_at}
 use Rattle.ny_hands.proofs.HeapLemmas.{Length, Empty, Long, length_of}
 use Rattle.ny_hands.proofs.MarkLemmas.{spent_like}
 use Rattle.ny_hands.proofs.ComingLemmas.{comes_as}
-use Rattle.ny_trace.specs.Evaluates.{Trace, NodeTurn, LouderTurn, JoinTurn, ValueTurn, Evaluates}
+use Rattle.ny_trace.specs.Evaluates.{Trace, NodeTurn, JoinTurn, ValueTurn, Evaluates}
 use Rattle.ny_trace.specs.Laws.{KeepFree, in_turn, IsLawful}
 use Rattle.ny_trace.specs.Heights.{tall_node, IsRising}
 use Rattle.ny_trace.proofs.EvaluationLemmas.{node_gives}
@@ -90,7 +89,7 @@ module _ (code : Code) (n e : ℕ) (env : Env) (names : Names) (old new : HeapSt
   played_node (node.Effect w a es) is step =
       let part = (part_built e a.0 (built code) (more_true es (below e false (built code)) (below e false (built code) a.0) is)).1 in
       record { part = step.part; mid = step.mid; evaluates = (part, step.evaluates); unit = step.unit; is = step.is; made = step.made }
-  played_node (node.Cue a) is step = record { part = step.part; mid = step.mid; evaluates = ((part_built e a.0 (built code) is).1, step.evaluates); cued = step.cued }
+  played_node (node.Cue a) is step = not_built is
   played_node (node.Mix o es) is step = not_built is
   played_node (node.Repeat o x k a) is step = not_built is
   played_node (node.Change c a) is step = ((part_built e a.0 (built code) (both_true (change_built c (below e false (built code))) (below e false (built code) a.0) is).1).1, step)
@@ -132,7 +131,7 @@ low_node code e (node.Not a) known under is = omega arith
 low_node code e (node.If c a b) known under is = omega (arith, under.1, under.2)
 low_node code e (node.Leaf w es) known under is = omega arith
 low_node code e (node.Effect w a es) known under is = omega (arith, under.0)
-low_node code e (node.Cue a) known under is = omega (arith, under)
+low_node code e (node.Cue a) known under is = not_built is
 low_node code e (node.Mix o es) known under is = not_built is
 low_node code e (node.Repeat o x k a) known under is = not_built is
 low_node code e (node.Change c a) known under is = omega (arith, under.1)
@@ -184,17 +183,6 @@ settled_join op r (SoundOf a) (SoundOf b) old new s step all =
     settled_made step.end new _ _ (step.first ∷ step.second ∷ []) (step.first ∷ step.second ∷ []) s step.made
     (settled_brought step.mid step.end r b step.second step.brings_second (settled_brought old step.mid r a step.first step.brings_first all))
 
-pub settled_placed : (mid new : HeapState Branch) (f : Timing → Timing) (a s : Sound) → Places mid new f a s → IsSettled mid → IsSettled new
-settled_placed mid new f a s step all = by_length (length_of s.timing)
-  where
-    by_length : Length s.timing → IsSettled new
-    by_length (Empty e f) = settled_trimmed mid new (a ∷ []) (step.all e) all
-    by_length (Long e f) = subst (λ (h : HeapState Branch). IsSettled h) (sym (step.some e)) all
-
-settled_louder : (mid new : HeapState Branch) (is : Bool) (loud : ℤ) (a s : Sound) → LouderTurn is loud a mid new s → IsSettled mid → IsSettled new
-settled_louder mid new true loud a s step all = subst (λ (h : HeapState Branch). IsSettled h) step.0 all
-settled_louder mid new false loud a s step all = settled_made mid new _ _ (a ∷ []) (a ∷ []) s step all
-
 -- an evaluation after which nothing waits
 abbrev pub IsQuiet : Trace → Type 0
 IsQuiet D = (e : ℕ) (env : Env) (names : Names) (old new : HeapState Branch) (s : Sound) → D e env names old new s → IsSettled old → IsSettled new
@@ -221,8 +209,7 @@ module _ (code : Code) (D : Trace) (quiet : IsQuiet D) where
   settled_node e (node.If c a b) known env names old new s is step all = quiet (if test_of code c (scalars_of names) then a.0 else b.0) env names old new s step all
   settled_node e (node.Leaf w es) known env names old new s is step all = settled_made old new _ _ [] [] s step.made all
   settled_node e (node.Effect w a es) known env names old new s is step all = settled_made step.mid new _ _ (step.part ∷ []) (step.part ∷ []) s step.made (quiet a.0 env names old step.mid step.part step.evaluates all)
-  settled_node e (node.Cue a) known env names old new s is step all =
-      settled_louder step.cued.mid new (is_one env.loud) env.loud step.cued.later s step.cued.louder (settled_placed step.mid step.cued.mid (cue_timing env) step.part step.cued.later step.cued.places (quiet a.0 env names old step.mid step.part step.evaluates all))
+  settled_node e (node.Cue a) known env names old new s is step all = not_built is
   settled_node e (node.Mix o es) known env names old new s is step all = not_built is
   settled_node e (node.Repeat o x k a) known env names old new s is step all = not_built is
   settled_node e (node.Change c a) known env names old new s is step all = quiet a.0 (changed_env c (λ k. number_of code k (scalars_of names)) env) names old new s step all

@@ -1,4 +1,4 @@
--- Which expressions can be played yet: all but blocks, calls of functions, bare names of sounds, the four combinations of
+-- Which expressions can be played yet: all but blocks, calls of functions, bare names of sounds, `cue`, the four combinations of
 -- parts, and `vector`. A global variable is a number, whatever it is made of.
 use Rattle.std.specs.Prelude.{ℕ, Bool, true, false, ◌&&◌, List, [], ◌∷◌}
 use Rattle.ny_check.specs.declared.node.Node.{Node}
@@ -34,7 +34,6 @@ built_node (node.Not a) rec = rec a.0
 built_node (node.If c a b) rec = rec c.0 && (rec a.0 && rec b.0)
 built_node (node.Leaf w es) rec = all_built es rec true
 built_node (node.Effect w e es) rec = all_built es rec (rec e.0)
-built_node (node.Cue a) rec = rec a.0
 built_node (node.Change c e) rec = change_built c rec && rec e.0
 built_node _ rec = false
 

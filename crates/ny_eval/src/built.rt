@@ -48,7 +48,7 @@ fn built_node(node: &Node, known: &[bool]) -> bool
 {
     match node {
         Node::Number(_) | Node::Global(_) => true,
-        Node::Div(a, _) | Node::Neg(a) | Node::Not(a) | Node::Cue(a) => known_of(known, *a),
+        Node::Div(a, _) | Node::Neg(a) | Node::Not(a) => known_of(known, *a),
         Node::Pair(_, a, b) | Node::Compare(_, a, b) | Node::And(a, b) | Node::Or(a, b) => {
             both(known_of(known, *a), known_of(known, *b))
         }

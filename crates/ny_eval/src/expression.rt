@@ -9,9 +9,8 @@ ghost use Rattle.ny_eval.specs.Opened.{stack_of};
 ghost use Rattle.ny_hands.specs.Frames.{bound_in, part_is, sounds_among};
 ghost use Rattle.ny_hands.specs.Hands.{AreNamed, Hand, Comes, item};
 ghost use Rattle.ny_trace.specs.Heights.{Ranks, AreLow, Stands};
-ghost use Rattle.ny_trace.specs.Evaluates.{Evaluates, ValueTurn, OperationTurn, SignTurn, EffectTurn, CueTurn, numbers_in};
+ghost use Rattle.ny_trace.specs.Evaluates.{Evaluates, ValueTurn, OperationTurn, SignTurn, EffectTurn, numbers_in};
 
-use crate::cue::cued;
 use crate::filter::make_of;
 use crate::leaf::{lawful, make_leaf, silent};
 use crate::unit::{give_up, joined, single};
@@ -99,7 +98,6 @@ fn evaluate(
                 heap,
             )?)
         }
-        Node::Cue(part) => Ok(cue(alloc, p, *part, env, binds, heap)?),
         Node::If(c, a, b) => {
             let part = chosen(p.test(alloc, *c, binds)?, *a, *b);
             Ok(evaluate(alloc, p, part, env, binds, heap)?)
@@ -232,31 +230,6 @@ fn affected(
     let sound = evaluate(alloc, p, part, env, binds, heap)?;
     let make = make_of(effect, numbers.as_slice(), sound.timing.rate);
     Ok(single(alloc, make, sound, heap)?)
-}
-
-/// The sound of an expression, in an environment, heard from its local time 0 on and at its loudness.
-///
-/// # Errors
-/// `AllocError` where memory is missing. The heap is then as before.
-#[cycle(evaluate)]
-fn cue(
-    alloc: Global,
-    p: &Program,
-    part: ExprId,
-    env: Env,
-    binds: &Binds<Sound>,
-    heap: &mut Heap<Branch>,
-) -> Result<Sound, AllocError>
-    requires inside { part.0 < length p.now.nodes }
-    requires built { built p.now part.0 ≡ true }
-    requires names { AreNamed heap.old binds.now.names }
-    ensures turn { IfOk result (λ s. (n : ℕ) → part.0 < n → CueTurn (Evaluates p.now n) part env binds.now.names heap.old heap.new s) }
-    ensures refused { OnErr result (Hand heap.old heap.new []) }
-{
-    p.order_law();
-    lawful(heap);
-    let sound = evaluate(alloc, p, part, env.copy(alloc)?, binds, heap)?;
-    Ok(cued(alloc, sound, &env, heap)?)
 }
 
 /// The sound that an expression is, in an environment, as a sound of the heap

@@ -6,7 +6,6 @@
 
 mod built;
 mod channels;
-mod cue;
 mod envelope;
 mod expression;
 mod filter;

@@ -2,15 +2,14 @@ use Rattle.std.proofs.Common.{rules, ◌+◌, [], ◌∷◌, arith, refl, sym, a
 use Rattle.std.proofs.lemmas.Int.{ints}
 use Rattle.ny_hands.proofs.HandLemmas.{hand_none}
 use Rattle.ny_hands.proofs.SpendLemmas.{all_in_hand, all_given_up}
-use Rattle.ny_warp.specs.declared.env.Env.{Env}
-use Rattle.ny_trace.specs.Evaluates.{IsNoNumber, JoinTurn, Evaluates, sounds_of_values}
+use Rattle.ny_trace.specs.Evaluates.{IsNoNumber, JoinTurn, sounds_of_values}
 use Rattle.ny_kernels.specs.declared.operation.Op.TheVariants.{Sub}
 use Rattle.ny_check.specs.declared.value.Value.TheVariants.{Number}
 use Rattle.ny_trace.proofs.StepLemmas.{lifted, value_lifted}
 use Rattle.ny_eval.specs.Built.{built}
 use Rattle.ny_eval.proofs.AnswerLemmas.{on_err}
-use Rattle.ny_eval.proofs.BuiltLemmas.{pair_parts, sign_part, cue_part, effect_part, choice_part, change_part}
-use Rattle.ny_eval.proofs.EvalLemmas.{sound_hand, value_hand, values_hand, first_hand, names_after, number_is, no_number, operation_turn, pair_below, sign_below, cue_below, effect_below, choice_below, change_below, pair_arm, sign_arm, cue_arm, leaf_arm, effect_arm, choice_arm, change_arm, silent_arm}
+use Rattle.ny_eval.proofs.BuiltLemmas.{pair_parts, sign_part, effect_part, choice_part, change_part}
+use Rattle.ny_eval.proofs.EvalLemmas.{sound_hand, value_hand, values_hand, first_hand, names_after, number_is, no_number, operation_turn, pair_below, sign_below, effect_below, choice_below, change_below, pair_arm, sign_arm, leaf_arm, effect_arm, choice_arm, change_arm, silent_arm}
 use Rattle.ny_eval.proofs.ShapeLemmas.{effect_single, effect_made}
 use Rattle.ny_eval.proofs.expression.+evaluate.Goals as goal
 
@@ -50,16 +49,6 @@ pub evaluate-returns-in_ok-affected-in-Effect-clause-evaluates : goal.evaluate-r
 evaluate-returns-in_ok-affected-in-Effect-clause-evaluates t c =
     effect_arm c.args.p.now c.args.e.0 c.node.result.now c.args.env c.args.binds.now.names c.args.heap.now c.affected.new.heap c.in_ok-affected-in-Effect.field-0 c.node.ensures.value c.node.ensures.ordered c.in-Effect.effect c.in-Effect.part c.in-Effect.parts c.as_slice-in-Effect.result.now c.in-Effect.is c.as_slice-in-Effect.ensures c.in_ok-affected-in-Effect.ensures.turn
 
-pub evaluate-cue-requires : goal.evaluate-cue-requires
-evaluate-cue-requires t c =
-    let under = cue_below c.args.p.now c.args.e.0 c.in-Cue.part c.node.result.now c.in-Cue.is c.node.ensures.ordered in
-    let part = cue_part c.args.p.now c.args.e.0 c.node.result.now c.node.ensures.value c.requires.built c.in-Cue.part c.in-Cue.is in
-    (omega (arith, under, c.decreases), (omega (arith, under, c.requires.inside), (part, c.requires.names)))
-
-pub evaluate-returns-in_ok-cue-in-Cue-clause-evaluates : goal.evaluate-returns-in_ok-cue-in-Cue-clause-evaluates
-evaluate-returns-in_ok-cue-in-Cue-clause-evaluates t c =
-    cue_arm c.args.p.now c.args.e.0 c.node.result.now c.args.env c.args.binds.now.names c.args.heap.now c.cue.new.heap c.in_ok-cue-in-Cue.field-0 c.node.ensures.value c.node.ensures.ordered c.in-Cue.part c.in-Cue.is c.in_ok-cue-in-Cue.ensures.turn
-
 pub evaluate-returns-in_err-test-in-If-clause-refused : goal.evaluate-returns-in_err-test-in-If-clause-refused
 evaluate-returns-in_err-test-in-If-clause-refused t c = on_err _ _ (hand_none c.args.heap.now c.lawful.ensures)
 
@@ -93,7 +82,7 @@ pub evaluate-returns-in_ok-silent-in_default : goal.evaluate-returns-in_ok-silen
 evaluate-returns-in_ok-silent-in_default t c =
     let no = c.in_default in
     record {
-      evaluates = silent_arm c.args.p.now c.args.e.0 c.node.result.now c.args.env c.args.binds.now.names c.args.heap.now c.silent.new.heap c.in_ok-silent-in_default.field-0 c.node.ensures.value c.node.ensures.ordered no.not-Pair no.not-Neg no.not-Leaf no.not-Effect no.not-Cue no.not-If no.not-Change c.in_ok-silent-in_default.ensures.silent c.requires.built;
+      evaluates = silent_arm c.args.p.now c.args.e.0 c.node.result.now c.args.env c.args.binds.now.names c.args.heap.now c.silent.new.heap c.in_ok-silent-in_default.field-0 c.node.ensures.value c.node.ensures.ordered no.not-Pair no.not-Neg no.not-Leaf no.not-Effect no.not-If no.not-Change c.in_ok-silent-in_default.ensures.silent c.requires.built;
       refused = tt;
     }
 
@@ -189,31 +178,4 @@ affected-returns-clause-turn t c n less = record {
   unit = c.make_of-make.result;
   is = effect_made c.args.effect c.as_slice.result.now _ c.in_ok-sound.sound.timing.rate c.make_of-make.result c.make_of-make.ensures (c.as_slice.ensures.value ∙ c.in_ok-numbers.ensures);
   made = c.in_ok-single.ensures.makes;
-}
-
--- ---- a cue
-
-pub cue-returns-in_err-copy-clause-refused : goal.cue-returns-in_err-copy-clause-refused
-cue-returns-in_err-copy-clause-refused t c = on_err _ _ (hand_none c.args.heap.now c.lawful.ensures)
-
-pub cue-cued-requires : goal.cue-cued-requires
-cue-cued-requires t c =
-    record {
-      hands = all_in_hand c.args.heap.now c.evaluate.new.heap (c.in_ok-sound.sound ∷ []) c.lawful.ensures
-          (sound_hand c.args.p.now c.order_law.ensures.ordered (c.args.part.0 + 1) c.args.part.0 c.in_ok-copy.field-0 c.args.binds.now.names c.args.heap.now c.evaluate.new.heap c.in_ok-sound.sound c.requires.inside c.requires.built c.lawful.ensures c.requires.names c.in_ok-sound.ensures.evaluates);
-    }
-
-pub cue-returns-in_err-cued-clause-refused : goal.cue-returns-in_err-cued-clause-refused
-cue-returns-in_err-cued-clause-refused t c =
-    on_err _ _ (all_given_up c.args.heap.now c.evaluate.new.heap c.cued.new.heap (c.in_ok-sound.sound ∷ []) c.lawful.ensures
-    (sound_hand c.args.p.now c.order_law.ensures.ordered (c.args.part.0 + 1) c.args.part.0 c.in_ok-copy.field-0 c.args.binds.now.names c.args.heap.now c.evaluate.new.heap c.in_ok-sound.sound c.requires.inside c.requires.built c.lawful.ensures c.requires.names c.in_ok-sound.ensures.evaluates)
-    c.in_err-cued.ensures.gives_up)
-
-pub cue-returns-clause-turn : goal.cue-returns-clause-turn
-cue-returns-clause-turn t c n less = record {
-  part = c.in_ok-sound.sound;
-  mid = c.evaluate.new.heap;
-  evaluates = subst (λ (q : Env). Evaluates c.args.p.now n c.args.part.0 q c.args.binds.now.names c.args.heap.now c.evaluate.new.heap c.in_ok-sound.sound) c.in_ok-copy.ensures
-      (lifted c.args.p.now (c.args.part.0 + 1) n c.args.part.0 c.in_ok-copy.field-0 c.args.binds.now.names c.args.heap.now c.evaluate.new.heap c.in_ok-sound.sound (omega (arith, less)) c.in_ok-sound.ensures.evaluates);
-  cued = c.in_ok-cued.ensures.turn;
 }

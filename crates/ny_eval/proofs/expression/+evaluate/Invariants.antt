@@ -16,6 +16,3 @@ decreases-negated l = 4 * l.a.0 + 2
 
 abbrev pub decreases-affected : goal.decreases-affected
 decreases-affected l = 4 * l.part.0 + 1
-
-abbrev pub decreases-cue : goal.decreases-cue
-decreases-cue l = 4 * l.part.0 + 1
