@@ -8,15 +8,17 @@ use Rattle.std.proofs.lemmas.List.{get_or_past, drop_more}
 use Rattle.std.proofs.Math.ListN.{drop_of_length-le}
 use Rattle.std.proofs.lemmas.List.FromFn.{get_or-map-range_with_len, length-map-range_with_len, map-range_with_len_more}
 use Rattle.ny_kernels.specs.declared.operation.Op.{Op}
-use Rattle.ny_check.specs.Code.{Code, node_at}
+use Rattle.ny_resolve.specs.declared.term.NameId.{NameId}
+use Rattle.ny_check.specs.Code.{Code, node_at, function_at}
 use Rattle.ny_check.specs.Recursion.{below}
 use Rattle.ny_check.specs.declared.node.Node.{Node}
 use Rattle.ny_check.specs.declared.node.Node.TheVariants as node
 use Rattle.ny_check.specs.declared.node.Change.{Change}
 use Rattle.ny_check.specs.declared.node.Effect.{Effect}
 use Rattle.ny_check.specs.declared.node.ExprId.{ExprId}
+use Rattle.ny_check.specs.declared.node.FunctionId.{FunctionId}
 use Rattle.ny_check.proofs.Smaller.{by_smaller-is}
-use Rattle.ny_eval.specs.Built.{all_built, change_built, built_node, built, is_built}
+use Rattle.ny_eval.specs.Built.{all_built, binds_built, AreBuilt, AreBindsBuilt, change_built, built_node, built, is_built}
 
 -- ---- a table
 
@@ -31,23 +33,23 @@ known_is code n known is = fun_ext (λ m. ap (λ xs. slice_index_or xs m false) 
         by_test true e = get_or-map-range_with_len (built code) 0 n m m false (ltb-true m n e) (omega arith)
         by_test false e = get_or_past (map (built code) (range_with_len 0 n)) m false (omega (arith, ltb-false m n e, length-map-range_with_len (built code) 0 n))
 
-pub one_more : (code : Code) (n : ℕ) (known : List Bool) → known ≡ map (built code) (range_with_len 0 n) → built_node (node_at code n) (λ m. slice_index_or known m false) ≡ built code n
+pub one_more : (code : Code) (n : ℕ) (known : List Bool) → known ≡ map (built code) (range_with_len 0 n) → built_node code (node_at code n) (λ m. slice_index_or known m false) ≡ built code n
 unfolding built
-one_more code n known is = ap (built_node (node_at code n)) (known_is code n known is) ∙ sym (by_smaller-is false (λ e rec. built_node (node_at code e) rec) n)
+one_more code n known is = ap (built_node code (node_at code n)) (known_is code n known is) ∙ sym (by_smaller-is false (λ e rec. built_node code (node_at code e) rec) n)
 
 -- what is known of a node that was looked at over a slice of the table
-looked_up : (code : Code) (n : ℕ) (known seen : List Bool) (at : Node) (made : Bool) → seen ≡ known → at ≡ node_at code n → known ≡ map (built code) (range_with_len 0 n) → made ≡ built_node at (λ m. slice_index_or seen m false) → made ≡ built code n
-looked_up code n known seen at made same there is e =
-    e ∙ (λ i. built_node (there i) (λ m. slice_index_or (same i) m false)) ∙ one_more code n known is
+looked_up : (code : Code) (n : ℕ) (known seen : List Bool) (made : Bool) → seen ≡ known → known ≡ map (built code) (range_with_len 0 n) → made ≡ built_node code (node_at code n) (λ m. slice_index_or seen m false) → made ≡ built code n
+looked_up code n known seen made same is e =
+    e ∙ (λ i. built_node code (node_at code n) (λ m. slice_index_or (same i) m false)) ∙ one_more code n known is
 
 -- the table with one node more
-pub one_more_known : (code : Code) (n : ℕ) (known seen : List Bool) (at : Node) (next : Bool) (more : List Bool) → more ≡ known ++ next ∷ [] → seen ≡ known → at ≡ node_at code n → known ≡ map (built code) (range_with_len 0 n) → next ≡ built_node at (λ m. slice_index_or seen m false) → more ≡ map (built code) (range_with_len 0 (n + 1))
-one_more_known code n known seen at next more grown same there is made =
-    grown ∙ (λ i. is i ++ looked_up code n known seen at next same there is made i ∷ []) ∙ sym (map-range_with_len_more (built code) 0 n n (omega arith))
+pub one_more_known : (code : Code) (n : ℕ) (known seen : List Bool) (next : Bool) (more : List Bool) → more ≡ known ++ next ∷ [] → seen ≡ known → known ≡ map (built code) (range_with_len 0 n) → next ≡ built_node code (node_at code n) (λ m. slice_index_or seen m false) → more ≡ map (built code) (range_with_len 0 (n + 1))
+one_more_known code n known seen next more grown same is made =
+    grown ∙ (λ i. is i ++ looked_up code n known seen next same is made i ∷ []) ∙ sym (map-range_with_len_more (built code) 0 n n (omega arith))
 
-pub is_built-from : (code : Code) (n : ℕ) (known seen : List Bool) (at : Node) (made : Bool) → record { 0 = n } ≡ code.play → seen ≡ known → at ≡ node_at code n → known ≡ map (built code) (range_with_len 0 n) → made ≡ built_node at (λ m. slice_index_or seen m false) → made ≡ is_built code
+pub is_built-from : (code : Code) (n : ℕ) (known seen : List Bool) (made : Bool) → record { 0 = n } ≡ code.play → seen ≡ known → known ≡ map (built code) (range_with_len 0 n) → made ≡ built_node code (node_at code n) (λ m. slice_index_or seen m false) → made ≡ is_built code
 unfolding is_built
-is_built-from code n known seen at made play same there is e = looked_up code n known seen at made same there is e ∙ ap (λ (x : ExprId). built code x.0) play
+is_built-from code n known seen made play same is e = looked_up code n known seen made same is e ∙ ap (λ (x : ExprId). built code x.0) play
 
 -- ---- one after another
 
@@ -70,6 +72,26 @@ next_built es i d known k found more all h is made so =
 
 pub all_done : (es : List ExprId) (i : ℕ) (known : ℕ → Bool) (found all : Bool) → length es ≤ i → all_built (drop i es) known found ≡ all → found ≡ all
 all_done es i known found all h so = sym (ap (λ l. all_built l known found) (drop_of_length-le es h)) ∙ so
+
+-- the same of binds
+binds_swap : (a : Bool) (bs : List (NameId × ExprId)) (known : ℕ → Bool) (more : Bool) → (a && binds_built bs known more) ≡ binds_built bs known (a && more)
+binds_swap a [] known more = refl
+binds_swap a (b ∷ bs) known more = two a (known b.1.0) (binds_built bs known more) ∙ ap (λ t. known b.1.0 && t) (binds_swap a bs known more)
+  where
+    two : (a b more : Bool) → (a && (b && more)) ≡ (b && (a && more))
+    two true true more = refl
+    two true false more = refl
+    two false true more = refl
+    two false false more = refl
+
+pub next_bind_built : (bs : List (NameId × ExprId)) (i : ℕ) (d : NameId × ExprId) (known : ℕ → Bool) (k found more all : Bool) → i < length bs → k ≡ known (get_or bs i d).1.0 → more ≡ (k && found) → binds_built (drop i bs) known found ≡ all → binds_built (drop (i + 1) bs) known more ≡ all
+next_bind_built bs i d known k found more all h is made so =
+    ap (binds_built (drop (i + 1) bs) known) (made ∙ ap (λ b. b && found) is)
+    ∙ (sym (binds_swap (known (get_or bs i d).1.0) (drop (i + 1) bs) known found)
+    ∙ (sym (ap (λ l. binds_built l known found) (drop_more bs i d h)) ∙ so))
+
+pub all_binds_done : (bs : List (NameId × ExprId)) (i : ℕ) (known : ℕ → Bool) (found all : Bool) → length bs ≤ i → binds_built (drop i bs) known found ≡ all → found ≡ all
+all_binds_done bs i known found all h so = sym (ap (λ l. binds_built l known found) (drop_of_length-le bs h)) ∙ so
 
 pub play_built : (code : Code) → is_built code ≡ true → built code code.play.0 ≡ true
 unfolding is_built
@@ -99,10 +121,28 @@ part_built n m f e = by_test (nat_lt m n) refl e
     by_test true low is = (ltb-true m n low, is)
     by_test false low is = not_built is
 
+-- the parts of a call
+pub parts_built : (code : Code) (n : ℕ) (es : List ExprId) (more : Bool) → all_built es (below n false (built code)) more ≡ true → AreBuilt code es
+parts_built code n [] more e = tt
+parts_built code n (x ∷ es) more e =
+    let both = both_true (below n false (built code) x.0) (all_built es (below n false (built code)) more) e in
+    ((part_built n x.0 (built code) both.0).1, parts_built code n es more both.1)
+
+-- and of a block
+pub binds_more_true : (bs : List (NameId × ExprId)) (known : ℕ → Bool) (more : Bool) → binds_built bs known more ≡ true → more ≡ true
+binds_more_true [] known more e = e
+binds_more_true (b ∷ bs) known more e = binds_more_true bs known more (both_true (known b.1.0) (binds_built bs known more) e).1
+
+pub parts_bound_built : (code : Code) (n : ℕ) (bs : List (NameId × ExprId)) (more : Bool) → binds_built bs (below n false (built code)) more ≡ true → AreBindsBuilt code bs
+parts_bound_built code n [] more e = tt
+parts_bound_built code n (b ∷ bs) more e =
+    let both = both_true (below n false (built code) b.1.0) (binds_built bs (below n false (built code)) more) e in
+    ((part_built n b.1.0 (built code) both.0).1, parts_bound_built code n bs more both.1)
+
 module _ (code : Code) (e : ℕ) where
-  pub built_at : (at : Node) → node_at code e ≡ at → built code e ≡ true → built_node at (below e false (built code)) ≡ true
+  pub built_at : (at : Node) → node_at code e ≡ at → built code e ≡ true → built_node code at (below e false (built code)) ≡ true
   unfolding built
-  built_at at is builds = sym (by_smaller-is false (λ n rec. built_node (node_at code n) rec) e ∙ ap (λ n. built_node n (below e false (built code))) is) ∙ builds
+  built_at at is builds = sym (by_smaller-is false (λ n rec. built_node code (node_at code n) rec) e ∙ ap (λ n. built_node code n (below e false (built code))) is) ∙ builds
 
   module _ (here : Node) (found : here ≡ node_at code e) (builds : built code e ≡ true) where
     pub pair_parts : (op : Op) (a b : ExprId) → here ≡ node.Pair op a b → (built code a.0 ≡ true) × (built code b.0 ≡ true)
@@ -115,6 +155,16 @@ module _ (code : Code) (e : ℕ) where
 
     pub effect_part : (w : Effect) (a : ExprId) (es : List ExprId) → here ≡ node.Effect w a es → built code a.0 ≡ true
     effect_part w a es is = (part_built e a.0 (built code) (more_true es (below e false (built code)) (below e false (built code) a.0) (built_at (node.Effect w a es) (sym found ∙ is) builds))).1
+
+    pub call_parts : (f : FunctionId) (es : List ExprId) → here ≡ node.Call f es → AreBuilt code es × (built code (function_at code f.0).body.0 ≡ true)
+    call_parts f es is =
+        let all = built_at (node.Call f es) (sym found ∙ is) builds in
+        (parts_built code e es _ all, (part_built e (function_at code f.0).body.0 (built code) (more_true es (below e false (built code)) (below e false (built code) (function_at code f.0).body.0) all)).1)
+
+    pub block_parts : (bs : List (NameId × ExprId)) (a : ExprId) → here ≡ node.Block bs a → AreBindsBuilt code bs × (built code a.0 ≡ true)
+    block_parts bs a is =
+        let all = built_at (node.Block bs a) (sym found ∙ is) builds in
+        (parts_bound_built code e bs _ all, (part_built e a.0 (built code) (binds_more_true bs (below e false (built code)) (below e false (built code) a.0) all)).1)
 
     pub choice_part : (c a b : ExprId) (t : Bool) → here ≡ node.If c a b → built code (if t then a.0 else b.0) ≡ true
     choice_part c a b t is = by_choice t

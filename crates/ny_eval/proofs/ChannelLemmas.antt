@@ -1,6 +1,6 @@
 -- A channel that was just made is played from its first sample on.
 use Rattle.std.proofs.Common.{◌≡◌, ℕ, zero, suc, ◌+◌, ◌*◌, ◌<◌, ◌≤◌, ◌==◌, Bool, true, false, if◌then◌else◌, List, [], ◌∷◌, ◌++◌, map, length, sum, slice_index, Option, None, Some, refl, sym, ap, subst, ◌∙◌, arith}
-use Rattle.std.specs.Prelude.{nat_lt, ◌&&◌}
+use Rattle.std.specs.Prelude.{nat_lt, ◌&&◌, zip}
 use Rattle.std.proofs.lemmas.Bool.{eqb-true}
 use Rattle.std.specs.Option.{option_map_or}
 use Rattle.ny_num.specs.declared.timing.Timing.{Timing}
@@ -15,10 +15,10 @@ use Rattle.ny_warp.specs.Environment.{opening}
 use Rattle.ny_check.specs.declared.node.Node.{Node as NodeOf}
 use Rattle.ny_check.specs.declared.node.Node.TheVariants as node
 use Rattle.ny_check.specs.declared.node.ExprId.{ExprId}
-use Rattle.ny_check.specs.Code.{Code, node_at as node_in, IsBelow, IsOrdered}
+use Rattle.ny_check.specs.Code.{Code, node_at as node_in, function_at, IsBelow, IsOrdered}
 use Rattle.ny_check.specs.Values.{scalars_of, test_of}
 use Rattle.ny_check.specs.Recursion.{below, turns}
-use Rattle.ny_check.specs.Meaning.{Bound, meaning, sound_node}
+use Rattle.ny_check.specs.Meaning.{Bound, meaning, sound_node, value_of, bound_after}
 use Rattle.ny_check.specs.Channels.{Plays, plays_node, played, channel_at, channels}
 use Rattle.ny_check.proofs.Smaller.{below-at, by_smaller-is}
 use Rattle.ny_check.proofs.MeaningEquation.{meaning-is}
@@ -42,12 +42,13 @@ use Rattle.ny_trace.specs.Heights.{Ranks, Stands}
 use Rattle.ny_trace.proofs.HeightLemmas.{step_made, step_brought}
 use Rattle.ny_eval.specs.Below.{IsSettled}
 use Rattle.ny_eval.specs.Built.{built_node, built, is_built}
-use Rattle.ny_eval.specs.Opened.{IsEmpty, AreOpened, stack_of, height_of}
+use Rattle.ny_check.specs.Heights.{height_of as height_of_expression, IsTall as LeavesRoom}
+use Rattle.ny_eval.specs.Opened.{IsEmpty, AreOpened, height_of}
 use Rattle.ny_eval.specs.Playing.{IsHeard, IsPulled, IsPlaying}
 use Rattle.ny_eval.proofs.AnswerLemmas.{all_one}
 use Rattle.ny_eval.proofs.BelowLemmas.{user_there}
-use Rattle.ny_eval.proofs.BuiltLemmas.{not_built, both_true, part_built, built_at}
-use Rattle.ny_eval.proofs.PlayedLemmas.{played_lawful, played_rising, played_quiet, settled_made, settled_brought}
+use Rattle.ny_eval.proofs.BuiltLemmas.{not_built, both_true, more_true, binds_more_true, part_built, built_at}
+use Rattle.ny_eval.proofs.PlayedLemmas.{played_lawful, heights_enough, played_rising, played_quiet, settled_made, settled_brought}
 
 -- ---- the unit
 
@@ -87,19 +88,23 @@ channel_unit old new t a xs s list laws bounds makes meaning =
 -- ---- what is played
 
 -- what an expression that can be played plays is one sound
-plays_one : (code : Code) (n : ℕ) (rec : ℕ → Plays) (known : ℕ → Bool) (env : Env) (bound : Bound) → ((m : ℕ) → known m ≡ true → (m < n) × (rec m env bound ≡ meaning code m env bound ∷ [])) → (at : NodeOf) → IsBelow code.functions n at → node_in code n ≡ at → built_node at known ≡ true → plays_node code n at rec env bound ≡ meaning code n env bound ∷ []
+meant : (code : Code) (n : ℕ) (env : Env) (bound : Bound) (at : NodeOf) → IsBelow code.functions n at → node_in code n ≡ at → meaning code n env bound ≡ sound_node code at (meaning code) env bound
+meant code n env bound at under is = meaning-is code n env bound (subst (λ x. IsBelow code.functions n x) (sym is) under) ∙ ap (λ (x : NodeOf). sound_node code x (meaning code) env bound) is
+
+plays_one : (code : Code) (n : ℕ) (rec : ℕ → Plays) (known : ℕ → Bool) (env : Env) (bound : Bound) → ((m : ℕ) (bound : Bound) → known m ≡ true → (m < n) × (rec m env bound ≡ meaning code m env bound ∷ [])) → (at : NodeOf) → IsBelow code.functions n at → node_in code n ≡ at → built_node code at known ≡ true → plays_node code n at rec env bound ≡ meaning code n env bound ∷ []
 plays_one code n rec known env bound one (node.If c a b) under is e =
     let both = both_true (known a.0) (known b.0) (both_true (known c.0) (known a.0 && known b.0) e).1 in
-    let meant : meaning code n env bound ≡ (if test_of code c (scalars_of bound) then meaning code a.0 env bound else meaning code b.0 env bound) =
-    meaning-is code n env bound (subst (λ x. IsBelow code.functions n x) (sym is) under) ∙ ap (λ (x : NodeOf). sound_node code x (meaning code) env bound) is in
-    chosen (test_of code c (scalars_of bound)) (rec a.0 env bound) (rec b.0 env bound) (meaning code a.0 env bound) (meaning code b.0 env bound) (one a.0 both.0).1 (one b.0 both.1).1 ∙ ap (λ s. s ∷ []) (sym meant)
+    chosen (test_of code c (scalars_of bound)) (rec a.0 env bound) (rec b.0 env bound) (meaning code a.0 env bound) (meaning code b.0 env bound) (one a.0 bound both.0).1 (one b.0 bound both.1).1 ∙ ap (λ s. s ∷ []) (sym (meant code n env bound (node.If c a b) under is))
   where
     chosen : (t : Bool) (xs ys : List sounds.Sound) (x y : sounds.Sound) → xs ≡ x ∷ [] → ys ≡ y ∷ [] → (if t then xs else ys) ≡ (if t then x else y) ∷ []
     chosen true xs ys x y p q = p
     chosen false xs ys x y p q = q
 plays_one code n rec known env bound one (node.Vector es) under is e = not_built e
-plays_one code n rec known env bound one (node.Call f es) under is e = not_built e
-plays_one code n rec known env bound one (node.Block bs v) under is e = not_built e
+plays_one code n rec known env bound one (node.Call f es) under is e =
+    (one (function_at code f.0).body.0 (zip (function_at code f.0).params (map (value_of code (meaning code) env bound) es)) (more_true es known (known (function_at code f.0).body.0) e)).1
+    ∙ ap (λ s. s ∷ []) (sym (meant code n env bound (node.Call f es) under is))
+plays_one code n rec known env bound one (node.Block bs v) under is e =
+    (one v.0 (bound_after code (meaning code) env bs bound) (binds_more_true bs known (known v.0) e)).1 ∙ ap (λ s. s ∷ []) (sym (meant code n env bound (node.Block bs v) under is))
 plays_one code n rec known env bound one _ under is e = refl
 
 pub played_one : (code : Code) → IsOrdered code → (turns n : ℕ) (env : Env) (bound : Bound) → n < turns → n < length code.nodes → built code n ≡ true → played code n env bound ≡ meaning code n env bound ∷ []
@@ -109,9 +114,9 @@ played_one code ordered (suc turns) n env bound less inside builds =
     let none : Plays = λ from names. [] in
     ap (λ (g : Plays). g env bound) (by_smaller-is none (λ e rec. plays_node code e (node_in code e) rec) n)
     ∙ plays_one code n (below n none (played code)) (below n false (built code)) env bound
-    (λ m is.
+    (λ m names is.
     let part = part_built n m (built code) is in
-    (part.0, ap (λ (g : Plays). g env bound) (below-at n m none (played code) part.0) ∙ played_one code ordered turns m env bound (omega (arith, part.0, less)) (omega (arith, part.0, inside)) part.1))
+    (part.0, ap (λ (g : Plays). g env names) (below-at n m none (played code) part.0) ∙ played_one code ordered turns m env names (omega (arith, part.0, less)) (omega (arith, part.0, inside)) part.1))
     (node_in code n) (ordered.each n inside) refl (built_at code n (node_in code n) refl builds)
 
 -- ---- where nothing waits, it does not matter what the parts that wait are
@@ -137,8 +142,8 @@ module _ (old : HeapState Branch) (empty : IsEmpty old) where
   empty_settled : IsSettled old
   empty_settled v x at = absurd (none_some (node_at old v) x (empty.none v) at)
 
-  empty_ranks : Ranks stack_of old (λ v. 0)
-  empty_ranks = record {
+  empty_ranks : (tall : ℕ → ℕ) → Ranks tall old (λ v. 0)
+  empty_ranks tall = record {
     falls = λ u v uses. let x = user_there old u v uses in absurd (none_some (node_at old u) x.0 (empty.none u) x.1);
     room = λ u x i p at waits. absurd (none_some (node_at old u) x (empty.none u) at);
   }
@@ -168,7 +173,7 @@ unfolding timing_of
 len_of t m is = sym (ap (λ (u : Timing). u.len) is)
 
 -- over what is played, which comes to a heap without units and is brought to the rate
-module _ (code : Code) (ordered : IsOrdered code) (rate : Rate) (e : ℕ) (env : Env) (old part_heap mid new : HeapState Branch) (p a s : Sound) (t : Timing) (empty : IsEmpty old) (inside : e < length code.nodes) (builds : built code e ≡ true) (evaluates : Evaluates code (e + 1) e env [] old part_heap p) (brings : Brings part_heap mid rate p a) where
+module _ (code : Code) (ordered : IsOrdered code) (high : LeavesRoom code (height_of_expression code)) (rate : Rate) (e : ℕ) (env : Env) (old part_heap mid new : HeapState Branch) (p a s : Sound) (t : Timing) (empty : IsEmpty old) (inside : e < length code.nodes) (builds : built code e ≡ true) (evaluates : Evaluates code (e + 1) e env [] old part_heap p) (brings : Brings part_heap mid rate p a) where
   part_comes : Comes (part_is code) old part_heap (item p (λ w. meaning code e env []) ∷ [])
   part_comes = played_lawful code ordered (e + 1) e env [] old part_heap p (builds, evaluates) inside empty.laws tt
 
@@ -194,14 +199,14 @@ module _ (code : Code) (ordered : IsOrdered code) (rate : Rate) (e : ℕ) (env :
     channel_settled : IsSettled new
     channel_settled = settled_made mid new Channel t (a ∷ []) (a ∷ []) s made (settled_brought part_heap mid rate p a brings (played_quiet code (e + 1) e env [] old part_heap p (builds, evaluates) (empty_settled old empty)))
 
-    part_stands : Stands stack_of old part_heap (λ v. 0) (0 + stack_of e) (p ∷ [])
-    part_stands = played_rising code ordered (e + 1) e env [] old part_heap p (builds, evaluates) inside empty.laws tt (λ v. 0) 0 (empty_ranks old empty) tt
+    part_stands : Stands (height_of_expression code) old part_heap (λ v. 0) (0 + height_of_expression code e) (p ∷ [])
+    part_stands = played_rising code ordered (height_of_expression code) (heights_enough code (height_of_expression code) high) (e + 1) e env [] old part_heap p (builds, evaluates) inside empty.laws tt (λ v. 0) 0 (empty_ranks old empty (height_of_expression code)) tt
 
-    brought_stands : Stands stack_of part_heap mid part_stands.later (0 + stack_of e + 1) (a ∷ [])
-    brought_stands = step_brought stack_of part_heap mid rate p a part_stands.later (0 + stack_of e) part_comes.hand.laws part_comes.hand.begin.0 part_stands.ranks part_stands.in_hand brings
+    brought_stands : Stands (height_of_expression code) part_heap mid part_stands.later (0 + height_of_expression code e + 1) (a ∷ [])
+    brought_stands = step_brought (height_of_expression code) part_heap mid rate p a part_stands.later (0 + height_of_expression code e) part_comes.hand.laws part_comes.hand.begin.0 part_stands.ranks part_stands.in_hand brings
 
-    channel_stands : Stands stack_of mid new brought_stands.later (0 + stack_of e + 1 + 1) (s ∷ [])
-    channel_stands = step_made stack_of mid new Channel t (a ∷ []) s brought_stands.later (0 + stack_of e + 1) brought_hand.laws brought_hand.begin brought_stands.ranks brought_stands.in_hand made
+    channel_stands : Stands (height_of_expression code) mid new brought_stands.later (0 + height_of_expression code e + 1 + 1) (s ∷ [])
+    channel_stands = step_made (height_of_expression code) mid new Channel t (a ∷ []) s brought_stands.later (0 + height_of_expression code e + 1) brought_hand.laws brought_hand.begin brought_stands.ranks brought_stands.in_hand made
 
     -- where the heap means this, the sound is the channel
     channel_later : (w : Whole) → Means (part_is code) old w → (l : Whole) × Means (part_is code) new l × (sound_at l s ≡ mixes.channel (resampled rate (meaning code e env [])))
@@ -217,7 +222,7 @@ module _ (code : Code) (ordered : IsOrdered code) (rate : Rate) (e : ℕ) (env :
         let l = channel_later no_lists (empty_means old empty (part_is code) no_lists) in
         sym (ap timing_of l.2) ∙ timing_begin (part_is code) new l.0 s l.1 channel_hand.begin.0
 
-    channel_pulled : (left n : ℕ) → 0 + stack_of e + 1 + 1 ≤ left → list_of s ≡ Some n → IsPulled new s 0 left n
+    channel_pulled : (left n : ℕ) → 0 + height_of_expression code e + 1 + 1 ≤ left → list_of s ≡ Some n → IsPulled new s 0 left n
     channel_pulled left n low is = by_length (length_of t)
       where
         list_none : nat_lt 0 t.len ≡ false → list_of s ≡ None
@@ -240,7 +245,7 @@ module _ (code : Code) (ordered : IsOrdered code) (rate : Rate) (e : ℕ) (env :
               ranked = record { rank = channel_stands.later; falls = channel_stands.ranks.falls; within = omega (arith, under, low) };
             }
 
-    pub channel_plays : (left : ℕ) → 0 + stack_of e + 1 + 1 ≤ left → IsPlaying new s (mixes.channel (resampled rate (meaning code e env []))).samples 0 0 left
+    pub channel_plays : (left : ℕ) → 0 + height_of_expression code e + 1 + 1 ≤ left → IsPlaying new s (mixes.channel (resampled rate (meaning code e env []))).samples 0 0 left
     channel_plays left low = record {
       laws = channel_hand.laws;
       settled = channel_settled;
@@ -259,9 +264,9 @@ unfolding channels is_built
 one_channel code rate ordered builds = ap (map (channel_at rate)) (played_one code ordered (code.play.0 + 1) code.play.0 (opening rate) [] (omega arith) ordered.play builds)
 
 -- the channel of what a program plays, where there was no unit before
-pub channel_opened : (code : Code) → IsOrdered code → (rate : Rate) (env : Env) (e : ExprId) (names : Names) (old part_heap mid new : HeapState Branch) (p a s : Sound) (t : Timing) (xs : List Sound) → IsEmpty old → is_built code ≡ true → env ≡ opening rate → e ≡ code.play → names ≡ [] → Evaluates code (e.0 + 1) e.0 env names old part_heap p → Brings part_heap mid rate p a → t ≡ channel_timing a.timing → MakesUnit mid new Channel t (a ∷ []) [] (a ∷ []) s → xs ≡ s ∷ [] → AreOpened code rate new xs
+pub channel_opened : (code : Code) → IsOrdered code → LeavesRoom code (height_of_expression code) → (rate : Rate) (env : Env) (e : ExprId) (names : Names) (old part_heap mid new : HeapState Branch) (p a s : Sound) (t : Timing) (xs : List Sound) → IsEmpty old → is_built code ≡ true → env ≡ opening rate → e ≡ code.play → names ≡ [] → Evaluates code (e.0 + 1) e.0 env names old part_heap p → Brings part_heap mid rate p a → t ≡ channel_timing a.timing → MakesUnit mid new Channel t (a ∷ []) [] (a ∷ []) s → xs ≡ s ∷ [] → AreOpened code rate new xs
 unfolding is_built
-channel_opened code ordered rate env e names old part_heap mid new p a s t xs empty builds at_env at_play none evaluates brings when made only =
+channel_opened code ordered high rate env e names old part_heap mid new p a s t xs empty builds at_env at_play none evaluates brings when made only =
     let now : Evaluates code (code.play.0 + 1) code.play.0 (opening rate) [] old part_heap p =
     subst (λ (x : ExprId). Evaluates code (x.0 + 1) x.0 (opening rate) [] old part_heap p) at_play (subst (λ (q : Env). Evaluates code (e.0 + 1) e.0 q [] old part_heap p) at_env (subst (λ (ns : Names). Evaluates code (e.0 + 1) e.0 env ns old part_heap p) none evaluates)) in
     record {
@@ -269,6 +274,6 @@ channel_opened code ordered rate env e names old part_heap mid new p a s t xs em
       one = one_channel code rate ordered builds;
       sound = s;
       only = only;
-      timing = sym (channel_when code ordered rate code.play.0 (opening rate) old part_heap mid new p a s t empty ordered.play builds now brings when made);
-      plays = channel_plays code ordered rate code.play.0 (opening rate) old part_heap mid new p a s t empty ordered.play builds now brings when made (height_of code) (omega arith);
+      timing = sym (channel_when code ordered high rate code.play.0 (opening rate) old part_heap mid new p a s t empty ordered.play builds now brings when made);
+      plays = channel_plays code ordered high rate code.play.0 (opening rate) old part_heap mid new p a s t empty ordered.play builds now brings when made (height_of code) (omega arith);
     }

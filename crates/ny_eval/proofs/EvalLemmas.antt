@@ -1,10 +1,15 @@
 -- The steps of evaluation, by family, and what is in hand between them.
 use Rattle.std.proofs.Common.{◌≡◌, ℕ, ◌+◌, ◌<◌, max, Bool, true, false, if◌then◌else◌, List, [], ◌∷◌, length, None, Some, refl, sym, ap, subst, ◌∙◌, arith, ℤ}
+use Rattle.std.proofs.lemmas.List.{append-nil}
 use Rattle.ny_kernels.specs.declared.operation.Op.{Op}
 use Rattle.ny_warp.specs.declared.env.Env.{Env}
+use Rattle.ny_scope.specs.Scopes.{last_of}
+use Rattle.ny_resolve.specs.declared.term.NameId.{NameId}
+use Rattle.ny_resolve.specs.Keys.{same_name}
 use Rattle.ny_check.specs.declared.node.Node.{Node}
 use Rattle.ny_check.specs.declared.node.Node.TheVariants as node
 use Rattle.ny_check.specs.declared.node.ExprId.{ExprId}
+use Rattle.ny_check.specs.declared.node.FunctionId.{FunctionId}
 use Rattle.ny_check.specs.declared.node.Change.{Change}
 use Rattle.ny_check.specs.declared.node.Generator.{Generator}
 use Rattle.ny_check.specs.declared.node.Effect.{Effect}
@@ -12,7 +17,7 @@ use Rattle.ny_check.specs.declared.value.Scalar.{Scalar}
 use Rattle.ny_check.specs.declared.value.Scalar.TheVariants as scalar
 use Rattle.ny_check.specs.declared.value.Value.{Value}
 use Rattle.ny_check.specs.declared.value.Value.TheVariants.{Number, Sound as SoundOf}
-use Rattle.ny_check.specs.Code.{Code, node_at, IsBelow, IsOrdered}
+use Rattle.ny_check.specs.Code.{Code, node_at, function_at, AllBelow, BindsBelow, IsBelow, IsOrdered}
 use Rattle.ny_check.specs.Values.{scalars_of, number_of, test_of}
 use Rattle.ny_check.specs.Families.{changed_env}
 use Rattle.ny_check.specs.Recursion.{below}
@@ -21,11 +26,12 @@ use Rattle.ny_heap.specs.Heap.{HeapState}
 use Rattle.ny_heap.specs.Reach.{HeapLaws}
 use Rattle.ny_hands.specs.declared.branch.Branch.{Branch}
 use Rattle.ny_hands.specs.Calls.{IsSilent}
-use Rattle.ny_hands.specs.Frames.{Names}
-use Rattle.ny_hands.specs.Hands.{Hand, AreNamed}
+use Rattle.ny_hands.specs.Frames.{Names, AllHeld}
+use Rattle.ny_hands.specs.Hands.{Hand}
 use Rattle.ny_hands.proofs.HandLemmas.{hand_none, hand_more}
-use Rattle.ny_hands.proofs.NameLemmas.{named_kept}
-use Rattle.ny_trace.specs.Evaluates.{NodeTurn, IsNoNumber, ValueTurn, JoinTurn, OperationTurn, SignTurn, LeafTurn, EffectTurn, Evaluates, numbers_in, sounds_of_values}
+use Rattle.ny_hands.proofs.HeldLemmas.{held_named, names_later}
+use Rattle.ny_eval.specs.Framed.{FrameState, names_in}
+use Rattle.ny_trace.specs.Evaluates.{NameTurn, NodeTurn, IsNoNumber, ValueTurn, JoinTurn, OperationTurn, SignTurn, BlockTurn, CallTurn, LeafTurn, EffectTurn, Evaluates, numbers_in, sounds_of_values}
 use Rattle.ny_trace.proofs.StepLemmas.{lifted, value_lifted, step_at}
 use Rattle.ny_eval.specs.Built.{built_node, built}
 use Rattle.ny_eval.specs.Values.{number_in}
@@ -35,13 +41,13 @@ use Rattle.ny_eval.proofs.PlayedLemmas.{played_lawful}
 -- ---- what is in hand
 
 -- of an expression that can be played
-pub sound_hand : (code : Code) → IsOrdered code → (n e : ℕ) (env : Env) (names : Names) (old new : HeapState Branch) (s : Sound) → e < length code.nodes → built code e ≡ true → HeapLaws old → AreNamed old names → Evaluates code n e env names old new s → Hand old new (s ∷ [])
-sound_hand code ordered n e env names old new s inside builds laws named t = (played_lawful code ordered n e env names old new s (builds, t) inside laws named).hand
+pub sound_hand : (code : Code) → IsOrdered code → (n e : ℕ) (env : Env) (names : Names) (old new : HeapState Branch) (s : Sound) → e < length code.nodes → built code e ≡ true → HeapLaws old → AllHeld old names → Evaluates code n e env names old new s → Hand old new (s ∷ [])
+sound_hand code ordered n e env names old new s inside builds laws held t = (played_lawful code ordered n e env names old new s (builds, t) inside laws (held_named old names held)).hand
 
 -- of an operand
-pub value_hand : (code : Code) → IsOrdered code → (n : ℕ) (e : ExprId) (env : Env) (names : Names) (old new : HeapState Branch) (v : Value Sound) → e.0 < length code.nodes → built code e.0 ≡ true → HeapLaws old → AreNamed old names → ValueTurn (Evaluates code n) code env names e old new v → Hand old new (sounds_of_values (v ∷ []))
-value_hand code ordered n e env names old new (Number k) inside builds laws named step = subst (λ (h : HeapState Branch). Hand old h []) step.1 (hand_none old laws)
-value_hand code ordered n e env names old new (SoundOf s) inside builds laws named step = sound_hand code ordered n e.0 env names old new s inside builds laws named step.1
+pub value_hand : (code : Code) → IsOrdered code → (n : ℕ) (e : ExprId) (env : Env) (names : Names) (old new : HeapState Branch) (v : Value Sound) → e.0 < length code.nodes → built code e.0 ≡ true → HeapLaws old → AllHeld old names → ValueTurn (Evaluates code n) code env names e old new v → Hand old new (sounds_of_values (v ∷ []))
+value_hand code ordered n e env names old new (Number k) inside builds laws held step = subst (λ (h : HeapState Branch). Hand old h []) step.1 (hand_none old laws)
+value_hand code ordered n e env names old new (SoundOf s) inside builds laws held step = sound_hand code ordered n e.0 env names old new s inside builds laws held step.1
 
 -- of two
 pub values_hand : (old mid new : HeapState Branch) (x y : Value Sound) → Hand old mid (sounds_of_values (x ∷ [])) → Hand mid new (sounds_of_values (y ∷ [])) → Hand old new (sounds_of_values (x ∷ y ∷ []))
@@ -53,8 +59,25 @@ pub first_hand : (old mid new : HeapState Branch) (x : Value Sound) → Hand old
 first_hand old mid new (Number k) first second = hand_more old mid new [] [] first second
 first_hand old mid new (SoundOf s) first second = hand_more old mid new (s ∷ []) [] first second
 
-pub names_after : (old new : HeapState Branch) (ss : List Sound) (names : Names) → Hand old new ss → AreNamed old names → AreNamed new names
-names_after old new ss names hand named = named_kept old new hand.kept names named
+-- ---- names
+
+-- of a frame in which none was bound yet
+pub names_lent : (f : FrameState) (names : Names) → f ≡ record { lent = names; bound = [] } → names_in f ≡ names
+names_lent f names is = ap names_in is ∙ append-nil names
+
+-- what a frame that is as it was stands for is held in the same heap
+pub held_same : (h : HeapState Branch) (f g : FrameState) → g ≡ f → AllHeld h (names_in f) → AllHeld h (names_in g)
+held_same h f g same held = subst (λ (q : FrameState). AllHeld h (names_in q)) (sym same) held
+
+-- and in a later heap
+pub held_after : (old new : HeapState Branch) (ss : List Sound) (f g : FrameState) → HeapLaws old → Hand old new ss → g ≡ f → AllHeld old (names_in f) → AllHeld new (names_in g)
+held_after old new ss f g laws hand same held = held_same new f g same (names_later old new ss (names_in f) laws hand held)
+
+pub sound_under : (code : Code) (n e : ℕ) (env : Env) (f g : FrameState) (old new : HeapState Branch) (s : Sound) → g ≡ f → Evaluates code n e env (names_in g) old new s → Evaluates code n e env (names_in f) old new s
+sound_under code n e env f g old new s same t = subst (λ (q : FrameState). Evaluates code n e env (names_in q) old new s) same t
+
+pub value_under : (code : Code) (n : ℕ) (e : ExprId) (env : Env) (f g : FrameState) (old new : HeapState Branch) (v : Value Sound) → g ≡ f → ValueTurn (Evaluates code n) code env (names_in g) e old new v → ValueTurn (Evaluates code n) code env (names_in f) e old new v
+value_under code n e env f g old new v same t = subst (λ (q : FrameState). ValueTurn (Evaluates code n) code env (names_in q) e old new v) same t
 
 -- ---- operands
 
@@ -92,6 +115,12 @@ module _ (code : Code) (e : ℕ) where
   pub sign_below : (a : ExprId) (here : Node) → here ≡ node.Neg a → IsBelow code.functions e here → a.0 < e
   sign_below a here is ordered = subst (λ n. IsBelow code.functions e n) is ordered
 
+  pub call_below : (f : FunctionId) (es : List ExprId) (here : Node) → here ≡ node.Call f es → IsBelow code.functions e here → AllBelow e es × (f.0 < length code.functions) × ((function_at code f.0).body.0 < e)
+  call_below f es here is ordered = subst (λ n. IsBelow code.functions e n) is ordered
+
+  pub block_below : (bs : List (NameId × ExprId)) (a : ExprId) (here : Node) → here ≡ node.Block bs a → IsBelow code.functions e here → BindsBelow e bs × (a.0 < e)
+  block_below bs a here is ordered = subst (λ n. IsBelow code.functions e n) is ordered
+
   pub effect_below : (w : Effect) (a : ExprId) (es : List ExprId) (here : Node) → here ≡ node.Effect w a es → IsBelow code.functions e here → a.0 < e
   effect_below w a es here is ordered = (subst (λ n. IsBelow code.functions e n) is ordered).0
 
@@ -127,6 +156,16 @@ module _ (code : Code) (e : ℕ) (here : Node) (env : Env) (names : Names) (old 
   pub sign_arm : (a : ExprId) → here ≡ node.Neg a → ((n : ℕ) → a.0 < n → SignTurn (Evaluates code n) code a env names old new s) → Evaluates code (e + 1) e env names old new s
   sign_arm a is turn = step_at code e here env names old new s found (node.Neg a) is (turn e (subst (λ n. IsBelow code.functions e n) is ordered))
 
+  pub name_arm : (x : NameId) → here ≡ node.Local x → NameTurn env.sound_rate (last_of (same_name x) names) old new s → Evaluates code (e + 1) e env names old new s
+  name_arm x is turn = step_at code e here env names old new s found (node.Local x) is turn
+
+  -- its arguments and its binds stand in slices
+  pub call_arm : (f : FunctionId) (es slice : List ExprId) → here ≡ node.Call f es → slice ≡ es → CallTurn (Evaluates code e) code (function_at code f.0).params (function_at code f.0).body.0 slice env names old new s → Evaluates code (e + 1) e env names old new s
+  call_arm f es slice is same turn = step_at code e here env names old new s found (node.Call f es) is (subst (λ xs. CallTurn (Evaluates code e) code (function_at code f.0).params (function_at code f.0).body.0 xs env names old new s) same turn)
+
+  pub block_arm : (bs : List (NameId × ExprId)) (a : ExprId) (slice : List (NameId × ExprId)) → here ≡ node.Block bs a → slice ≡ bs → BlockTurn (Evaluates code e) code slice a env names old new s → Evaluates code (e + 1) e env names old new s
+  block_arm bs a slice is same turn = step_at code e here env names old new s found (node.Block bs a) is (subst (λ xs. BlockTurn (Evaluates code e) code xs a env names old new s) same turn)
+
   -- its numbers stand in a slice
   pub leaf_arm : (w : Generator) (es slice : List ExprId) → here ≡ node.Leaf w es → slice ≡ es → LeafTurn w env (numbers_in code names slice) old new s → Evaluates code (e + 1) e env names old new s
   leaf_arm w es slice is same turn = step_at code e here env names old new s found (node.Leaf w es) is (subst (λ xs. LeafTurn w env (numbers_in code names xs) old new s) same turn)
@@ -152,13 +191,13 @@ module _ (code : Code) (e : ℕ) (here : Node) (env : Env) (names : Names) (old 
       (lifted code (a.0 + 1) e a.0 changed names old new s (omega (arith, under.1)) turn))
 
   -- what else can be played is a number or a test
-  module _ (not_pair : (op : Op) (a b : ExprId) → here ≡ node.Pair op a b → ⊥) (not_neg : (a : ExprId) → here ≡ node.Neg a → ⊥) (not_leaf : (w : Generator) (es : List ExprId) → here ≡ node.Leaf w es → ⊥) (not_effect : (w : Effect) (part : ExprId) (es : List ExprId) → here ≡ node.Effect w part es → ⊥) (not_if : (c a b : ExprId) → here ≡ node.If c a b → ⊥) (not_change : (c : Change) (a : ExprId) → here ≡ node.Change c a → ⊥) (silent : IsSilent old new env.sound_rate s) where
-    silent_turn : (known : ℕ → Bool) (at : Node) → here ≡ at → built_node at known ≡ true → NodeTurn (Evaluates code e) code e at env names old new s
+  module _ (not_local : (x : NameId) → here ≡ node.Local x → ⊥) (not_call : (f : FunctionId) (es : List ExprId) → here ≡ node.Call f es → ⊥) (not_block : (bs : List (NameId × ExprId)) (a : ExprId) → here ≡ node.Block bs a → ⊥) (not_pair : (op : Op) (a b : ExprId) → here ≡ node.Pair op a b → ⊥) (not_neg : (a : ExprId) → here ≡ node.Neg a → ⊥) (not_leaf : (w : Generator) (es : List ExprId) → here ≡ node.Leaf w es → ⊥) (not_effect : (w : Effect) (part : ExprId) (es : List ExprId) → here ≡ node.Effect w part es → ⊥) (not_if : (c a b : ExprId) → here ≡ node.If c a b → ⊥) (not_change : (c : Change) (a : ExprId) → here ≡ node.Change c a → ⊥) (silent : IsSilent old new env.sound_rate s) where
+    silent_turn : (known : ℕ → Bool) (at : Node) → here ≡ at → built_node code at known ≡ true → NodeTurn (Evaluates code e) code e at env names old new s
     silent_turn known (node.Number v) is builds = silent
-    silent_turn known (node.Local x) is builds = not_built builds
+    silent_turn known (node.Local x) is builds = absurd (not_local x is)
     silent_turn known (node.Global a) is builds = silent
-    silent_turn known (node.Call f es) is builds = not_built builds
-    silent_turn known (node.Block bs a) is builds = not_built builds
+    silent_turn known (node.Call f es) is builds = absurd (not_call f es is)
+    silent_turn known (node.Block bs a) is builds = absurd (not_block bs a is)
     silent_turn known (node.Pair op a b) is builds = absurd (not_pair op a b is)
     silent_turn known (node.Div a v) is builds = silent
     silent_turn known (node.Neg a) is builds = absurd (not_neg a is)

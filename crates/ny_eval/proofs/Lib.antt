@@ -14,3 +14,6 @@ pub mod ShapeLemmas
 pub mod PlayedLemmas
 pub mod EvalLemmas
 pub mod ChannelLemmas
+pub mod FrameLemmas
+pub mod RankLemmas
+pub mod BodyLemmas

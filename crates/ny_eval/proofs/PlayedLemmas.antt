@@ -1,18 +1,21 @@
 -- The laws of a trace of what can be played: no sequence is met, so none of its parts keeps names.
-use Rattle.std.proofs.Common.{◌≡◌, inl, inr, ℕ, zero, suc, ◌+◌, ◌≤◌, Bool, true, false, if◌then◌else◌, List, [], ◌∷◌, refl, sym, ap, subst, ◌∙◌, arith, pos}
-use Rattle.std.specs.Prelude.{◌&&◌}
+use Rattle.std.proofs.Common.{◌≡◌, inl, inr, ℕ, zero, suc, ◌+◌, ◌≤◌, Bool, true, false, if◌then◌else◌, max, List, [], ◌∷◌, ◌++◌, length, take, Option, None, Some, refl, sym, ap, subst, ◌∙◌, arith, pos}
+use Rattle.std.specs.Prelude.{◌&&◌, zip}
 use Rattle.std.proofs.lemmas.Bool.{cases_eq}
 use Rattle.ny_num.specs.declared.rate.Rate.{Rate}
 use Rattle.ny_num.specs.declared.timing.Timing.{Timing}
 use Rattle.ny_kernels.specs.declared.operation.Op.{Op}
 use Rattle.ny_kernels.specs.declared.operation.Op.TheVariants.{Sub}
 use Rattle.ny_warp.specs.declared.env.Env.{Env}
+use Rattle.ny_scope.specs.Scopes.{last_of}
+use Rattle.ny_resolve.specs.Keys.{same_name}
 use Rattle.ny_check.specs.declared.node.Node.{Node as NodeOf}
 use Rattle.ny_check.specs.declared.node.Node.TheVariants as node
 use Rattle.ny_check.specs.declared.node.ExprId.{ExprId}
 use Rattle.ny_check.specs.declared.value.Value.{Value}
 use Rattle.ny_check.specs.declared.value.Value.TheVariants.{Number, Sound as SoundOf}
-use Rattle.ny_check.specs.Code.{Code, node_at as node_in, IsBelow, IsOrdered}
+use Rattle.ny_check.specs.Code.{Code, node_at as node_in, function_at, IsOrdered}
+use Rattle.ny_resolve.specs.declared.term.NameId.{NameId}
 use Rattle.ny_check.specs.Values.{scalars_of, number_of, test_of}
 use Rattle.ny_check.specs.Families.{changed_env}
 use Rattle.ny_check.specs.Recursion.{below}
@@ -23,22 +26,23 @@ use Rattle.ny_heap.specs.Heap.{Kind, Node, HeapState, node_at}
 use Rattle.ny_heap.specs.Reach.{IsTrimmed}
 use Rattle.ny_heap.specs.Steps.{without_sounds, new_node}
 use Rattle.ny_hands.specs.declared.branch.Branch.{Branch}
-use Rattle.ny_hands.specs.Calls.{MakesUnit, Brings, Stay, Change}
-use Rattle.ny_hands.specs.Frames.{Names, bound_in, part_is}
+use Rattle.ny_hands.specs.Calls.{MakesUnit, ReleasesAll, Brings, Stay, Change}
+use Rattle.ny_hands.specs.Frames.{Names, bound_in, part_is, sounds_among}
 use Rattle.ny_hands.proofs.OptionLemmas.{same_at}
 use Rattle.ny_hands.proofs.HeapLemmas.{Length, Empty, Long, length_of}
 use Rattle.ny_hands.proofs.MarkLemmas.{spent_like}
 use Rattle.ny_hands.proofs.ComingLemmas.{comes_as}
-use Rattle.ny_trace.specs.Evaluates.{Trace, NodeTurn, JoinTurn, ValueTurn, Evaluates}
+use Rattle.ny_trace.specs.Evaluates.{Trace, NameTurn, NodeTurn, JoinTurn, ValueTurn, BindsTurn, ValuesTurn, sounds_of_values, Evaluates}
 use Rattle.ny_trace.specs.Laws.{KeepFree, in_turn, IsLawful}
-use Rattle.ny_trace.specs.Heights.{tall_node, IsRising}
+use Rattle.ny_trace.specs.Heights.{greatest, one_on_another, tall_node, IsTall, IsRising}
+use Rattle.ny_check.specs.Heights.{greatest as greatest_of, one_on_another as one_on_another_of, height_node, IsTall as LeavesRoom}
 use Rattle.ny_trace.proofs.EvaluationLemmas.{node_gives}
-use Rattle.ny_trace.proofs.HeightLemmas.{from_trimmed, stands_wider}
+use Rattle.ny_trace.proofs.HeightLemmas.{ComesFrom, from_trimmed, stands_wider}
+use Rattle.ny_trace.proofs.RisingSeqLemmas.{from_shared}
 use Rattle.ny_trace.proofs.RisingEvaluationLemmas.{node_stands}
 use Rattle.ny_eval.specs.Below.{IsSettled}
-use Rattle.ny_eval.specs.Built.{change_built, built_node, built}
-use Rattle.ny_eval.specs.Opened.{stack_of}
-use Rattle.ny_eval.proofs.BuiltLemmas.{both_true, more_true, not_built, part_built, built_at}
+use Rattle.ny_eval.specs.Built.{change_built, built_node, built, AreBuilt, AreBindsBuilt}
+use Rattle.ny_eval.proofs.BuiltLemmas.{both_true, more_true, binds_more_true, not_built, part_built, parts_built, parts_bound_built, built_at}
 
 -- a trace of what can be played
 abbrev pub Played : Code → ℕ → Trace
@@ -50,13 +54,43 @@ played_value : (code : Code) (n : ℕ) (env : Env) (names : Names) (e : ExprId) 
 played_value code n env names e old new (Number k) is step = step
 played_value code n env names e old new (SoundOf s) is step = (step.0, (is, step.1))
 
+played_binds : (code : Code) (n : ℕ) (env : Env) (bs : List (NameId × ExprId)) (names : Names) (old new : HeapState Branch) (added : Names) → AreBindsBuilt code bs → BindsTurn (Evaluates code n) code env bs names old new added → BindsTurn (Played code n) code env bs names old new added
+played_binds code n env [] names old new [] are step = step
+played_binds code n env [] names old new (a ∷ added) are step = absurd step
+played_binds code n env (b ∷ bs) names old new [] are step = absurd step
+played_binds code n env (b ∷ bs) names old new (a ∷ added) are step =
+    (step.0, step.1, played_value code n env names b.1 old step.0 a.1 are.0 step.2, played_binds code n env bs (names ++ a ∷ []) step.0 new added are.1 step.3)
+
+played_values : (code : Code) (n : ℕ) (env : Env) (names : Names) (k : ℕ) (es : List ExprId) (old new : HeapState Branch) (vs : List (Value Sound)) → AreBuilt code es → ValuesTurn (Evaluates code n) code env names (take k es) old new vs → ValuesTurn (Played code n) code env names (take k es) old new vs
+played_values code n env names zero es old new [] are step = step
+played_values code n env names zero es old new (v ∷ vs) are step = absurd step
+played_values code n env names (suc k) [] old new [] are step = step
+played_values code n env names (suc k) [] old new (v ∷ vs) are step = absurd step
+played_values code n env names (suc k) (e ∷ es) old new [] are step = absurd step
+played_values code n env names (suc k) (e ∷ es) old new (v ∷ vs) are step =
+    (step.0, played_value code n env names e old step.0 v are.0 step.1, played_values code n env names k es step.0 new vs are.1 step.2)
+
 module _ (code : Code) (n e : ℕ) (env : Env) (names : Names) (old new : HeapState Branch) (s : Sound) where
-  played_node : (at : NodeOf) → built_node at (below e false (built code)) ≡ true → NodeTurn (Evaluates code n) code e at env names old new s → NodeTurn (Played code n) code e at env names old new s
+  played_node : (at : NodeOf) → built_node code at (below e false (built code)) ≡ true → NodeTurn (Evaluates code n) code e at env names old new s → NodeTurn (Played code n) code e at env names old new s
   played_node (node.Number v) is step = step
-  played_node (node.Local x) is step = not_built is
+  played_node (node.Local x) is step = step
   played_node (node.Global a) is step = step
-  played_node (node.Call f es) is step = not_built is
-  played_node (node.Block bs a) is step = not_built is
+  played_node (node.Call f es) is step = record {
+    values = step.values;
+    mid = step.mid;
+    end = step.end;
+    arguments = played_values code n env names (length (function_at code f.0).params) es old step.mid step.values (parts_built code e es _ is) step.arguments;
+    inside = ((part_built e (function_at code f.0).body.0 (built code) (more_true es (below e false (built code)) (below e false (built code) (function_at code f.0).body.0) is)).1, step.inside);
+    given_up = step.given_up;
+  }
+  played_node (node.Block bs a) is step = record {
+    added = step.added;
+    mid = step.mid;
+    end = step.end;
+    binds = played_binds code n env bs names old step.mid step.added (parts_bound_built code e bs _ is) step.binds;
+    body = ((part_built e a.0 (built code) (binds_more_true bs (below e false (built code)) (below e false (built code) a.0) is)).1, step.body);
+    given_up = step.given_up;
+  }
   played_node (node.Pair op a b) is step =
       let both = both_true (below e false (built code) a.0) (below e false (built code) b.0) is in
       record {
@@ -115,44 +149,61 @@ played_lawful code ordered (suc n) e env names old new s (builds, inr t) inside 
 
 -- ---- heights
 
-low_node : (code : Code) (e : ℕ) (at : NodeOf) (known : ℕ → Bool) → IsBelow code.functions e at → built_node at known ≡ true → tall_node code at stack_of ≤ stack_of e
-low_node code e (node.Number v) known under is = omega arith
-low_node code e (node.Local x) known under is = not_built is
-low_node code e (node.Global a) known under is = omega arith
-low_node code e (node.Call f es) known under is = not_built is
-low_node code e (node.Block bs a) known under is = not_built is
-low_node code e (node.Pair op a b) known under is = omega (arith, under.0, under.1)
-low_node code e (node.Div a v) known under is = omega arith
-low_node code e (node.Neg a) known under is = omega (arith, under)
-low_node code e (node.Compare r a b) known under is = omega arith
-low_node code e (node.And a b) known under is = omega arith
-low_node code e (node.Or a b) known under is = omega arith
-low_node code e (node.Not a) known under is = omega arith
-low_node code e (node.If c a b) known under is = omega (arith, under.1, under.2)
-low_node code e (node.Leaf w es) known under is = omega arith
-low_node code e (node.Effect w a es) known under is = omega (arith, under.0)
-low_node code e (node.Cue a) known under is = not_built is
-low_node code e (node.Mix o es) known under is = not_built is
-low_node code e (node.Repeat o x k a) known under is = not_built is
-low_node code e (node.Change c a) known under is = omega (arith, under.1)
-low_node code e (node.Vector es) known under is = not_built is
+greatest_same : (f : ℕ → ℕ) (es : List ExprId) → greatest f es ≡ greatest_of f es
+greatest_same f [] = refl
+greatest_same f (e ∷ es) = ap (max (f e.0)) (greatest_same f es)
 
-pub played_rising : (code : Code) → IsOrdered code → (n : ℕ) → IsRising code stack_of (Played code n)
-played_rising code ordered zero e env names old new s t inside laws named rank base ranks low = absurd t.1
-played_rising code ordered (suc n) e env names old new s (builds, inl t) inside laws named rank base ranks low = played_rising code ordered n e env names old new s (builds, t) inside laws named rank base ranks low
-played_rising code ordered (suc n) e env names old new s (builds, inr t) inside laws named rank base ranks low =
-    let under = ordered.each e inside in
+binds_same : (f : ℕ → ℕ) (bs : List (NameId × ExprId)) → one_on_another f bs ≡ one_on_another_of f bs
+binds_same f [] = refl
+binds_same f (b ∷ bs) = ap (λ n. f b.1.0 + n) (binds_same f bs)
+
+-- what a node makes is no higher than the text says
+tall_is : (code : Code) (at : NodeOf) (f : ℕ → ℕ) → tall_node code at f ≤ height_node code at f
+tall_is code (node.Number v) f = omega arith
+tall_is code (node.Local x) f = omega arith
+tall_is code (node.Global a) f = omega arith
+tall_is code (node.Call g es) f = omega (arith, greatest_same f es)
+tall_is code (node.Block bs a) f = omega (arith, binds_same f bs)
+tall_is code (node.Pair op a b) f = omega arith
+tall_is code (node.Div a v) f = omega arith
+tall_is code (node.Neg a) f = omega arith
+tall_is code (node.Compare r a b) f = omega arith
+tall_is code (node.And a b) f = omega arith
+tall_is code (node.Or a b) f = omega arith
+tall_is code (node.Not a) f = omega arith
+tall_is code (node.If c a b) f = omega arith
+tall_is code (node.Leaf w es) f = omega arith
+tall_is code (node.Effect w a es) f = omega arith
+tall_is code (node.Cue a) f = omega arith
+tall_is code (node.Mix o es) f = omega (arith, greatest_same f es)
+tall_is code (node.Repeat o x k a) f = omega arith
+tall_is code (node.Change c a) f = omega arith
+tall_is code (node.Vector es) f = omega arith
+
+pub heights_enough : (code : Code) (f : ℕ → ℕ) → LeavesRoom code f → IsTall code f
+heights_enough code f room e inside = omega (arith, room e inside, tall_is code (node_in code e) f)
+
+pub played_rising : (code : Code) → IsOrdered code → (tall : ℕ → ℕ) → IsTall code tall → (n : ℕ) → IsRising code tall (Played code n)
+played_rising code ordered tall high zero e env names old new s t inside laws named rank base ranks low = absurd t.1
+played_rising code ordered tall high (suc n) e env names old new s (builds, inl t) inside laws named rank base ranks low = played_rising code ordered tall high n e env names old new s (builds, t) inside laws named rank base ranks low
+played_rising code ordered tall high (suc n) e env names old new s (builds, inr t) inside laws named rank base ranks low =
     let is = built_at code e (node_in code e) refl builds in
-    let least = low_node code e (node_in code e) (below e false (built code)) under is in
-    stands_wider stack_of old new rank (base + tall_node code (node_in code e) stack_of) (base + stack_of e) (s ∷ []) (omega (arith, least))
-    (node_stands code (Played code n) (played_lawful code ordered n) stack_of (played_rising code ordered n) e inside env names old new s laws named rank base ranks low (node_in code e) under (played_node code n e env names old new s (node_in code e) is t))
+    stands_wider tall old new rank (base + tall_node code (node_in code e) tall) (base + tall e) (s ∷ []) (omega (arith, high e inside))
+    (node_stands code (Played code n) (played_lawful code ordered n) tall (played_rising code ordered tall high n) e inside env names old new s laws named rank base ranks low (node_in code e) (ordered.each e inside) (played_node code n e env names old new s (node_in code e) is t))
 
 -- ---- nothing waits
 
-settled_trimmed : (mid new : HeapState Branch) (ss : List Sound) → IsTrimmed (without_sounds mid ss) new → IsSettled mid → IsSettled new
-settled_trimmed mid new ss trimmed all v y at =
-    let x = from_trimmed mid new ss trimmed v y at in
+settled_from : (mid new : HeapState Branch) → ComesFrom mid new → IsSettled mid → IsSettled new
+settled_from mid new from all v y at =
+    let x = from v y at in
     (ap (λ (q : Node Branch). q.pending) x.2 ∙ (all v x.0 x.1).0, ap (λ (q : Node Branch). q.waiting) x.2 ∙ (all v x.0 x.1).1)
+
+settled_trimmed : (mid new : HeapState Branch) (ss : List Sound) → IsTrimmed (without_sounds mid ss) new → IsSettled mid → IsSettled new
+settled_trimmed mid new ss trimmed all = settled_from mid new (from_trimmed mid new ss trimmed) all
+
+settled_released : (mid new : HeapState Branch) (ss : List Sound) → ReleasesAll mid new ss → IsSettled mid → IsSettled new
+settled_released mid new [] step all = subst (λ (h : HeapState Branch). IsSettled h) step all
+settled_released mid new (s ∷ ss) step all = settled_released step.0 new ss step.2 (settled_trimmed mid step.0 (s ∷ []) step.1.trimmed all)
 
 -- a unit under which nothing waits
 pub settled_made : (mid new : HeapState Branch) (kind : Kind) (t : Timing) (inputs spent : List Sound) (s : Sound) → MakesUnit mid new kind t inputs [] spent s → IsSettled mid → IsSettled new
@@ -192,12 +243,32 @@ module _ (code : Code) (D : Trace) (quiet : IsQuiet D) where
   settled_value env names e old new (Number k) step all = subst (λ (h : HeapState Branch). IsSettled h) step.1 all
   settled_value env names e old new (SoundOf s) step all = quiet e.0 env names old new s step.1 all
 
-  settled_node : (e : ℕ) (at : NodeOf) (known : ℕ → Bool) (env : Env) (names : Names) (old new : HeapState Branch) (s : Sound) → built_node at known ≡ true → NodeTurn D code e at env names old new s → IsSettled old → IsSettled new
+  settled_binds : (env : Env) (bs : List (NameId × ExprId)) (names : Names) (old new : HeapState Branch) (added : Names) → BindsTurn D code env bs names old new added → IsSettled old → IsSettled new
+  settled_binds env [] names old new [] step all = subst (λ (h : HeapState Branch). IsSettled h) step all
+  settled_binds env [] names old new (a ∷ added) step all = absurd step
+  settled_binds env (b ∷ bs) names old new [] step all = absurd step
+  settled_binds env (b ∷ bs) names old new (a ∷ added) step all = settled_binds env bs (names ++ a ∷ []) step.0 new added step.3 (settled_value env names b.1 old step.0 a.1 step.2 all)
+
+  settled_values : (env : Env) (names : Names) (es : List ExprId) (old new : HeapState Branch) (vs : List (Value Sound)) → ValuesTurn D code env names es old new vs → IsSettled old → IsSettled new
+  settled_values env names [] old new [] step all = subst (λ (h : HeapState Branch). IsSettled h) step all
+  settled_values env names [] old new (v ∷ vs) step all = absurd step
+  settled_values env names (e ∷ es) old new [] step all = absurd step
+  settled_values env names (e ∷ es) old new (v ∷ vs) step all = settled_values env names es step.0 new vs step.2 (settled_value env names e old step.0 v step.1 all)
+
+  settled_node : (e : ℕ) (at : NodeOf) (known : ℕ → Bool) (env : Env) (names : Names) (old new : HeapState Branch) (s : Sound) → built_node code at known ≡ true → NodeTurn D code e at env names old new s → IsSettled old → IsSettled new
   settled_node e (node.Number v) known env names old new s is step all = settled_made old new _ _ [] [] s step all
-  settled_node e (node.Local x) known env names old new s is step all = not_built is
+  settled_node e (node.Local x) known env names old new s is step all = by_found (last_of (same_name x) names) step
+    where
+      by_found : (o : Option (Value Sound)) → NameTurn env.sound_rate o old new s → IsSettled new
+      by_found None step = settled_made old new _ _ [] [] s step all
+      by_found (Some (Number v)) step = settled_made old new _ _ [] [] s step all
+      by_found (Some (SoundOf a)) step = settled_from old new (from_shared old new a s step) all
   settled_node e (node.Global a) known env names old new s is step all = settled_made old new _ _ [] [] s step all
-  settled_node e (node.Call f es) known env names old new s is step all = not_built is
-  settled_node e (node.Block bs a) known env names old new s is step all = not_built is
+  settled_node e (node.Call f es) known env names old new s is step all =
+      settled_released step.end new (sounds_of_values step.values) step.given_up
+      (quiet (function_at code f.0).body.0 env (zip (function_at code f.0).params step.values) step.mid step.end s step.inside (settled_values env names (take (length (function_at code f.0).params) es) old step.mid step.values step.arguments all))
+  settled_node e (node.Block bs a) known env names old new s is step all =
+      settled_released step.end new (sounds_among step.added) step.given_up (quiet a.0 env (names ++ step.added) step.mid step.end s step.body (settled_binds env bs names old step.mid step.added step.binds all))
   settled_node e (node.Pair op a b) known env names old new s is step all =
       settled_join op env.sound_rate step.left step.right step.end new s step.joined (settled_value env names b step.mid step.end step.right step.second (settled_value env names a old step.mid step.left step.first all))
   settled_node e (node.Div a v) known env names old new s is step all = settled_made old new _ _ [] [] s step all

@@ -1,5 +1,6 @@
 pub mod Below
 pub mod Built
+pub mod Framed
 pub mod Knots
 pub mod Opened
 pub mod Order

@@ -1,9 +1,10 @@
 -- The channels of a program as sounds of a heap, at their beginning.
-use Rattle.std.specs.Prelude.{◌≡◌, ℕ, ◌+◌, ◌*◌, List, [], ◌∷◌, None}
+use Rattle.std.specs.Prelude.{◌≡◌, ℕ, ◌+◌, List, [], ◌∷◌, None}
 use Rattle.ny_num.specs.declared.rate.Rate.{Rate}
 use Rattle.ny_num.specs.Sound as sounds
 use Rattle.ny_num.specs.Sound.{timing_of}
 use Rattle.ny_check.specs.Code.{Code}
+use Rattle.ny_check.specs.Heights.{height_of as height_of_expression}
 use Rattle.ny_check.specs.Channels.{channels}
 use Rattle.ny_heap.specs.Heap.{HeapState, node_at}
 use Rattle.ny_heap.specs.Reach.{HeapLaws}
@@ -15,14 +16,9 @@ pub record IsEmpty {B : Type 0} (h : HeapState B) : Type 0 where
   pub laws : HeapLaws h
   pub none : (v : ℕ) → node_at h v ≡ None
 
--- The unit of the expression at place e of the table stands no higher than this, since one of an operand that was brought to another
--- rate may stand between it and the next.
-abbrev pub stack_of : ℕ → ℕ
-stack_of e = 2 * e + 1
-
--- So may one between what is played and the channel, which stands on top.
+-- The unit of what is played stands no higher than its text lets it. One may bring it to the rate of the channel, which stands on top.
 abbrev pub height_of : Code → ℕ
-height_of code = 2 * code.play.0 + 4
+height_of code = height_of_expression code code.play.0 + 2
 
 -- the one channel of a program, of which nothing was read and nothing is filled
 pub record AreOpened {B : Type 0} (code : Code) (rate : Rate) (h : HeapState B) (opened : List Sound) : Type 0 where

@@ -1,8 +1,9 @@
 ghost use Rattle.std.specs.Prelude.{◌≡◌, ◌+◌, ◌<◌, ◌&&◌, false, length, map, slice_index_or, IfOk, ℕ};
 ghost use Rattle.std.specs.List.{range_with_len};
-ghost use Rattle.ny_eval.specs.Built.{all_built, change_built, built_node, built, is_built};
+ghost use Rattle.ny_check.specs.Code.{node_at};
+ghost use Rattle.ny_eval.specs.Built.{all_built, binds_built, change_built, built_node, built, is_built};
 
-use ny_check::{Change, ExprId, Node, Program};
+use ny_check::{Change, ExprId, NameId, Node, Program};
 use std::alloc::{AllocError, Global};
 
 fn both(a: bool, b: bool) -> bool
@@ -32,6 +33,17 @@ fn all_built(es: &[ExprId], known: &[bool], more: bool) -> bool
     found
 }
 
+// The same of the binds of a block.
+fn binds_built(binds: &[(NameId, ExprId)], known: &[bool], more: bool) -> bool
+    ensures { result ≡ binds_built binds.now (λ n. slice_index_or known.now n false) more }
+{
+    let mut found = more;
+    for bind in binds {
+        found = both(known_of(known, bind.1), found);
+    }
+    found
+}
+
 // Whether what a change goes by can be played.
 fn change_built(change: &Change, known: &[bool]) -> bool
     ensures { result ≡ change_built change.now (λ n. slice_index_or known.now n false) }
@@ -43,11 +55,12 @@ fn change_built(change: &Change, known: &[bool]) -> bool
 }
 
 // Whether a node can be played, of what is known of the nodes before it.
-fn built_node(node: &Node, known: &[bool]) -> bool
-    ensures { result ≡ built_node node.now (λ n. slice_index_or known.now n false) }
+fn built_node(p: &Program, e: ExprId, known: &[bool]) -> bool
+    requires { e.0 < length p.now.nodes }
+    ensures { result ≡ built_node p.now (node_at p.now e.0) (λ n. slice_index_or known.now n false) }
 {
-    match node {
-        Node::Number(_) | Node::Global(_) => true,
+    match p.node(e) {
+        Node::Number(_) | Node::Local(_) | Node::Global(_) => true,
         Node::Div(a, _) | Node::Neg(a) | Node::Not(a) => known_of(known, *a),
         Node::Pair(_, a, b) | Node::Compare(_, a, b) | Node::And(a, b) | Node::Or(a, b) => {
             both(known_of(known, *a), known_of(known, *b))
@@ -56,6 +69,8 @@ fn built_node(node: &Node, known: &[bool]) -> bool
             known_of(known, *c),
             both(known_of(known, *a), known_of(known, *b)),
         ),
+        Node::Call(f, es) => all_built(es.as_slice(), known, known_of(known, p.body(*f))),
+        Node::Block(binds, value) => binds_built(binds.as_slice(), known, known_of(known, *value)),
         Node::Leaf(_, es) => all_built(es.as_slice(), known, true),
         Node::Effect(_, e, es) => all_built(es.as_slice(), known, known_of(known, *e)),
         Node::Change(change, e) => both(change_built(change, known), known_of(known, *e)),
@@ -70,7 +85,7 @@ fn built_before(alloc: Global, p: &Program, e: ExprId) -> Result<Vec<bool>, Allo
 {
     let mut known = Vec::with_capacity(alloc, e.0 as usize)?;
     for n in 0..e.0 {
-        let built = built_node(p.node(ExprId(n)), known.as_slice());
+        let built = built_node(p, ExprId(n), known.as_slice());
         known.push(built)?;
     }
     Ok(known)
@@ -86,5 +101,5 @@ pub fn is_built(alloc: Global, p: &Program) -> Result<bool, AllocError>
 {
     let play = p.play();
     let known = built_before(alloc, p, play)?;
-    Ok(built_node(p.node(play), known.as_slice()))
+    Ok(built_node(p, play, known.as_slice()))
 }

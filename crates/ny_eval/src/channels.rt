@@ -33,6 +33,7 @@ pub fn eval_channels(
     ensures refused { OnErr result (Hand heap.old heap.new []) }
 {
     p.order_law();
+    p.height_law();
     let mut parts = Vec::with_capacity(alloc, 1)?;
     let mut channels = Vec::with_capacity(alloc, 1)?;
     let env = Env::open(alloc, rate)?;

@@ -1,22 +1,25 @@
-ghost use Rattle.std.specs.Prelude.{◌≡◌, ℕ, ◌+◌, ◌*◌, ◌<◌, ◌≤◌, max, length, true, if◌then◌else◌, [], ◌∷◌, IfOk, OnErr, OnOk};
-ghost use Rattle.ny_check.specs.Code.{AllBelow, IsChangeBelow};
+ghost use Rattle.std.specs.Prelude.{◌≡◌, ℕ, ◌+◌, ◌*◌, ◌<◌, ◌≤◌, max, length, take, true, if◌then◌else◌, [], ◌∷◌, IfOk, OnErr, OnOk};
+ghost use Rattle.ny_check.specs.Code.{AllBelow, BindsBelow, IsChangeBelow, function_at};
 ghost use Rattle.ny_check.specs.Families.{changed_env};
 ghost use Rattle.ny_check.specs.Values.{scalars_of, number_of};
+ghost use Rattle.ny_check.specs.Heights.{height_of};
 ghost use Rattle.ny_check.specs.Meaning.{meaning};
 ghost use Rattle.ny_eval.specs.Below.{IsSettled};
-ghost use Rattle.ny_eval.specs.Built.{built};
-ghost use Rattle.ny_eval.specs.Opened.{stack_of};
-ghost use Rattle.ny_hands.specs.Frames.{bound_in, part_is, sounds_among};
-ghost use Rattle.ny_hands.specs.Hands.{AreNamed, Hand, Comes, item};
+ghost use Rattle.ny_eval.specs.Built.{built, AreBuilt, AreBindsBuilt};
+ghost use Rattle.ny_eval.specs.Framed.{names_in, HasGrown, AreBound, ArePassed};
+ghost use Rattle.ny_hands.specs.Frames.{AllHeld, bound_in, part_is, sounds_among};
+ghost use Rattle.ny_hands.specs.Hands.{Hand, Comes, item};
 ghost use Rattle.ny_trace.specs.Heights.{Ranks, AreLow, Stands};
-ghost use Rattle.ny_trace.specs.Evaluates.{Evaluates, ValueTurn, OperationTurn, SignTurn, EffectTurn, numbers_in};
+ghost use Rattle.ny_trace.specs.Evaluates.{Evaluates, ValueTurn, OperationTurn, SignTurn, EffectTurn, BlockTurn, CallTurn, numbers_in};
 
 use crate::filter::make_of;
+use crate::frame::Frame;
 use crate::leaf::{lawful, make_leaf, silent};
+use crate::name::named;
 use crate::unit::{give_up, joined, single};
-use crate::values::{number_in, numbers};
+use crate::values::{no_names, number_in, numbers};
 use ny_check::changes::{change_by, change_rate};
-use ny_check::{Binds, Change, Effect, ExprId, Node, Program, Value};
+use ny_check::{Binds, Change, Effect, ExprId, FunctionId, NameId, Node, Program, Value};
 use ny_hands::Branch;
 use ny_heap::{Heap, Op, Sound};
 use ny_num::Fix;
@@ -32,16 +35,17 @@ fn apply(
     p: &Program,
     e: ExprId,
     change: &Change,
-    binds: &Binds<Sound>,
+    frame: &mut Frame<'_>,
     env: &mut Env,
 ) -> Result<(), AllocError>
     requires inside { e.0 ≤ length p.now.nodes }
     requires below { IsChangeBelow e.0 change.now }
-    ensures { OnOk result (env.new ≡ changed_env change.now (λ k. number_of p.now k (scalars_of binds.now.names)) env.old) }
+    ensures changed { OnOk result (env.new ≡ changed_env change.now (λ k. number_of p.now k (scalars_of (names_in frame.old))) env.old) }
+    ensures same { frame.new ≡ frame.old }
 {
     match change {
         Change::By(by, k) => {
-            change_by(env, *by, p.number(alloc, *k, binds)?);
+            change_by(env, *by, frame.number(alloc, p, *k)?);
             Ok(())
         }
         Change::Warp(map) => Ok(env.warp(alloc, map)?),
@@ -69,21 +73,27 @@ fn evaluate(
     p: &Program,
     e: ExprId,
     env: Env,
-    binds: &Binds<Sound>,
+    frame: &mut Frame<'_>,
     heap: &mut Heap<Branch>,
 ) -> Result<Sound, AllocError>
     requires inside { e.0 < length p.now.nodes }
     requires built { built p.now e.0 ≡ true }
-    requires names { AreNamed heap.old binds.now.names }
-    ensures evaluates { IfOk result (λ s. Evaluates p.now (e.0 + 1) e.0 env binds.now.names heap.old heap.new s) }
+    requires names { AllHeld heap.old (names_in frame.old) }
+    ensures evaluates { IfOk result (λ s. Evaluates p.now (e.0 + 1) e.0 env (names_in frame.old) heap.old heap.new s) }
+    ensures same { frame.new ≡ frame.old }
     ensures refused { OnErr result (Hand heap.old heap.new []) }
 {
     lawful(heap);
     match p.node(e) {
-        Node::Pair(op, a, b) => Ok(pair(alloc, p, *op, *a, *b, env, binds, heap)?),
-        Node::Neg(a) => Ok(negated(alloc, p, *a, env, binds, heap)?),
+        Node::Pair(op, a, b) => Ok(pair(alloc, p, *op, *a, *b, env, frame, heap)?),
+        Node::Neg(a) => Ok(negated(alloc, p, *a, env, frame, heap)?),
+        Node::Local(x) => Ok(named(alloc, *x, env.sound_rate, frame, heap)?),
+        Node::Call(f, parts) => { Ok(call(alloc, p, e, *f, parts.as_slice(), env, frame, heap)?) }
+        Node::Block(binds, value) => {
+            Ok(block(alloc, p, e, binds.as_slice(), *value, env, frame, heap)?)
+        }
         Node::Leaf(generator, parts) => {
-            Ok(make_leaf(alloc, p, e, *generator, parts.as_slice(), &env, binds, heap)?)
+            Ok(make_leaf(alloc, p, e, *generator, parts.as_slice(), &env, frame, heap)?)
         }
         Node::Effect(effect, part, parts) => {
             Ok(affected(
@@ -94,18 +104,18 @@ fn evaluate(
                 *part,
                 parts.as_slice(),
                 env,
-                binds,
+                frame,
                 heap,
             )?)
         }
         Node::If(c, a, b) => {
-            let part = chosen(p.test(alloc, *c, binds)?, *a, *b);
-            Ok(evaluate(alloc, p, part, env, binds, heap)?)
+            let part = chosen(frame.test(alloc, p, *c)?, *a, *b);
+            Ok(evaluate(alloc, p, part, env, frame, heap)?)
         }
         Node::Change(change, part) => {
             let mut changed = env;
-            apply(alloc, p, e, change, binds, &mut changed)?;
-            Ok(evaluate(alloc, p, *part, changed, binds, heap)?)
+            apply(alloc, p, e, change, frame, &mut changed)?;
+            Ok(evaluate(alloc, p, *part, changed, frame, heap)?)
         }
         _ => Ok(silent(alloc, env.sound_rate, heap)?),
     }
@@ -121,20 +131,21 @@ fn operand(
     p: &Program,
     e: ExprId,
     env: Env,
-    binds: &Binds<Sound>,
+    frame: &mut Frame<'_>,
     heap: &mut Heap<Branch>,
 ) -> Result<Value<Sound>, AllocError>
     requires inside { e.0 < length p.now.nodes }
     requires built { built p.now e.0 ≡ true }
-    requires names { AreNamed heap.old binds.now.names }
-    ensures turn { IfOk result (λ v. ValueTurn (Evaluates p.now (e.0 + 1)) p.now env binds.now.names e heap.old heap.new v) }
+    requires names { AllHeld heap.old (names_in frame.old) }
+    ensures turn { IfOk result (λ v. ValueTurn (Evaluates p.now (e.0 + 1)) p.now env (names_in frame.old) e heap.old heap.new v) }
+    ensures same { frame.new ≡ frame.old }
     ensures refused { OnErr result (Hand heap.old heap.new []) }
 {
     lawful(heap);
-    let scalar = p.scalar(alloc, e, binds)?;
+    let scalar = frame.scalar(alloc, p, e)?;
     match number_in(scalar) {
         Some(v) => Ok(Value::Number(v)),
-        None => Ok(Value::Sound(evaluate(alloc, p, e, env, binds, heap)?)),
+        None => Ok(Value::Sound(evaluate(alloc, p, e, env, frame, heap)?)),
     }
 }
 
@@ -150,22 +161,23 @@ fn pair(
     a: ExprId,
     b: ExprId,
     env: Env,
-    binds: &Binds<Sound>,
+    frame: &mut Frame<'_>,
     heap: &mut Heap<Branch>,
 ) -> Result<Sound, AllocError>
     requires first { a.0 < length p.now.nodes }
     requires second { b.0 < length p.now.nodes }
     requires built_first { built p.now a.0 ≡ true }
     requires built_second { built p.now b.0 ≡ true }
-    requires names { AreNamed heap.old binds.now.names }
-    ensures turn { IfOk result (λ s. (n : ℕ) → max a.0 b.0 < n → OperationTurn (Evaluates p.now n) p.now op a b env binds.now.names heap.old heap.new s) }
+    requires names { AllHeld heap.old (names_in frame.old) }
+    ensures turn { IfOk result (λ s. (n : ℕ) → max a.0 b.0 < n → OperationTurn (Evaluates p.now n) p.now op a b env (names_in frame.old) heap.old heap.new s) }
+    ensures same { frame.new ≡ frame.old }
     ensures refused { OnErr result (Hand heap.old heap.new []) }
 {
     p.order_law();
     lawful(heap);
     let rate = env.sound_rate;
-    let left = operand(alloc, p, a, env.copy(alloc)?, binds, heap)?;
-    match operand(alloc, p, b, env, binds, heap) {
+    let left = operand(alloc, p, a, env.copy(alloc)?, frame, heap)?;
+    match operand(alloc, p, b, env, frame, heap) {
         Ok(right) => Ok(joined(alloc, op, left, right, rate, heap)?),
         Err(fault) => {
             give_up(left, heap);
@@ -184,19 +196,20 @@ fn negated(
     p: &Program,
     a: ExprId,
     env: Env,
-    binds: &Binds<Sound>,
+    frame: &mut Frame<'_>,
     heap: &mut Heap<Branch>,
 ) -> Result<Sound, AllocError>
     requires inside { a.0 < length p.now.nodes }
     requires built { built p.now a.0 ≡ true }
-    requires names { AreNamed heap.old binds.now.names }
-    ensures turn { IfOk result (λ s. (n : ℕ) → a.0 < n → SignTurn (Evaluates p.now n) p.now a env binds.now.names heap.old heap.new s) }
+    requires names { AllHeld heap.old (names_in frame.old) }
+    ensures turn { IfOk result (λ s. (n : ℕ) → a.0 < n → SignTurn (Evaluates p.now n) p.now a env (names_in frame.old) heap.old heap.new s) }
+    ensures same { frame.new ≡ frame.old }
     ensures refused { OnErr result (Hand heap.old heap.new []) }
 {
     p.order_law();
     lawful(heap);
     let rate = env.sound_rate;
-    let value = operand(alloc, p, a, env, binds, heap)?;
+    let value = operand(alloc, p, a, env, frame, heap)?;
     Ok(joined(alloc, Op::Sub, Value::Number(Fix::of(0)), value, rate, heap)?)
 }
 
@@ -213,23 +226,182 @@ fn affected(
     part: ExprId,
     parts: &[ExprId],
     env: Env,
-    binds: &Binds<Sound>,
+    frame: &mut Frame<'_>,
     heap: &mut Heap<Branch>,
 ) -> Result<Sound, AllocError>
     requires inside { e.0 < length p.now.nodes }
     requires part { part.0 < length p.now.nodes }
     requires built { built p.now part.0 ≡ true }
     requires below { AllBelow e.0 parts.now }
-    requires names { AreNamed heap.old binds.now.names }
-    ensures turn { IfOk result (λ s. (n : ℕ) → part.0 < n → EffectTurn (Evaluates p.now n) effect part (numbers_in p.now binds.now.names parts.now) env binds.now.names heap.old heap.new s) }
+    requires names { AllHeld heap.old (names_in frame.old) }
+    ensures turn { IfOk result (λ s. (n : ℕ) → part.0 < n → EffectTurn (Evaluates p.now n) effect part (numbers_in p.now (names_in frame.old) parts.now) env (names_in frame.old) heap.old heap.new s) }
+    ensures same { frame.new ≡ frame.old }
     ensures refused { OnErr result (Hand heap.old heap.new []) }
 {
     p.order_law();
     lawful(heap);
-    let numbers = numbers(alloc, p, e, parts, binds)?;
-    let sound = evaluate(alloc, p, part, env, binds, heap)?;
+    let numbers = numbers(alloc, p, e, parts, frame)?;
+    let sound = evaluate(alloc, p, part, env, frame, heap)?;
     let make = make_of(effect, numbers.as_slice(), sound.timing.rate);
     Ok(single(alloc, make, sound, heap)?)
+}
+
+/// Binds the names of a block, each of which sees those before it.
+///
+/// # Errors
+/// `AllocError` where memory is missing. Some names are then bound.
+#[cycle(evaluate)]
+fn bind_all(
+    alloc: Global,
+    p: &Program,
+    e: ExprId,
+    binds: &[(NameId, ExprId)],
+    env: &Env,
+    frame: &mut Frame<'_>,
+    heap: &mut Heap<Branch>,
+) -> Result<(), AllocError>
+    requires inside { e.0 < length p.now.nodes }
+    requires below { BindsBelow e.0 binds.now }
+    requires built { AreBindsBuilt p.now binds.now }
+    requires names { AllHeld heap.old (names_in frame.old) }
+    ensures bound { OnOk result (AreBound p.now e.0 env.now binds.now frame.old frame.new heap.old heap.new) }
+    ensures grown { OnErr result (HasGrown frame.old frame.new heap.old heap.new) }
+{
+    p.order_law();
+    lawful(heap);
+    for (name, part) in binds {
+        let value = operand(alloc, p, *part, env.copy(alloc)?, frame, heap)?;
+        frame.keep(*name, value, heap)?;
+    }
+    Ok(())
+}
+
+/// What a block returns, in an environment. Then the sounds of its names are given up.
+///
+/// # Errors
+/// `AllocError` where memory is missing. The heap is then as before.
+#[cycle(evaluate)]
+fn block(
+    alloc: Global,
+    p: &Program,
+    e: ExprId,
+    binds: &[(NameId, ExprId)],
+    value: ExprId,
+    env: Env,
+    frame: &mut Frame<'_>,
+    heap: &mut Heap<Branch>,
+) -> Result<Sound, AllocError>
+    requires inside { e.0 < length p.now.nodes }
+    requires below { BindsBelow e.0 binds.now }
+    requires value { value.0 < e.0 }
+    requires built_binds { AreBindsBuilt p.now binds.now }
+    requires built_value { built p.now value.0 ≡ true }
+    requires names { AllHeld heap.old (names_in frame.old) }
+    ensures turn { IfOk result (λ s. BlockTurn (Evaluates p.now e.0) p.now binds.now value env (names_in frame.old) heap.old heap.new s) }
+    ensures same { frame.new ≡ frame.old }
+    ensures refused { OnErr result (Hand heap.old heap.new []) }
+{
+    p.order_law();
+    lawful(heap);
+    let before = frame.len();
+    match bind_all(alloc, p, e, binds, &env, frame, heap) {
+        Ok(()) => {
+            let sound = evaluate(alloc, p, value, env, frame, heap);
+            frame.leave(before, heap);
+            sound
+        }
+        Err(fault) => {
+            frame.leave(before, heap);
+            Err(fault)
+        }
+    }
+}
+
+/// Binds the parameters of a function to arguments in the names of the caller.
+///
+/// # Errors
+/// `AllocError` where memory is missing. Some parameters are then bound.
+#[cycle(evaluate)]
+fn arguments(
+    alloc: Global,
+    p: &Program,
+    e: ExprId,
+    params: &[NameId],
+    parts: &[ExprId],
+    env: &Env,
+    frame: &mut Frame<'_>,
+    inner: &mut Frame<'_>,
+    heap: &mut Heap<Branch>,
+) -> Result<(), AllocError>
+    requires inside { e.0 < length p.now.nodes }
+    requires below { AllBelow e.0 parts.now }
+    requires built { AreBuilt p.now parts.now }
+    requires names { AllHeld heap.old (names_in frame.old) }
+    ensures passed { OnOk result (ArePassed p.now e.0 env.now (names_in frame.old) params.now (take (length params.now) parts.now) inner.old inner.new heap.old heap.new) }
+    ensures grown { OnErr result (HasGrown inner.old inner.new heap.old heap.new) }
+    ensures same { frame.new ≡ frame.old }
+{
+    p.order_law();
+    lawful(heap);
+    let count = params.len().min(parts.len());
+    for i in 0..count {
+        let value = operand(alloc, p, parts[i], env.copy(alloc)?, frame, heap)?;
+        inner.keep(params[i], value, heap)?;
+    }
+    Ok(())
+}
+
+/// The body of a function under its arguments, in the environment of the call. Then the sounds of the arguments are given up.
+///
+/// # Errors
+/// `AllocError` where memory is missing. The heap is then as before.
+#[cycle(evaluate)]
+fn call(
+    alloc: Global,
+    p: &Program,
+    e: ExprId,
+    f: FunctionId,
+    parts: &[ExprId],
+    env: Env,
+    frame: &mut Frame<'_>,
+    heap: &mut Heap<Branch>,
+) -> Result<Sound, AllocError>
+    requires inside { e.0 < length p.now.nodes }
+    requires below { AllBelow e.0 parts.now }
+    requires function { f.0 < length p.now.functions }
+    requires body { (function_at p.now f.0).body.0 < e.0 }
+    requires built_parts { AreBuilt p.now parts.now }
+    requires built_body { built p.now (function_at p.now f.0).body.0 ≡ true }
+    requires names { AllHeld heap.old (names_in frame.old) }
+    ensures turn { IfOk result (λ s. CallTurn (Evaluates p.now e.0) p.now (function_at p.now f.0).params (function_at p.now f.0).body.0 parts.now env (names_in frame.old) heap.old heap.new s) }
+    ensures same { frame.new ≡ frame.old }
+    ensures refused { OnErr result (Hand heap.old heap.new []) }
+{
+    p.order_law();
+    lawful(heap);
+    let none = no_names(alloc);
+    let mut inner = Frame::of(alloc, &none)?;
+    match arguments(
+        alloc,
+        p,
+        e,
+        p.params(f),
+        parts,
+        &env,
+        frame,
+        &mut inner,
+        heap,
+    ) {
+        Ok(()) => {
+            let sound = evaluate(alloc, p, p.body(f), env, &mut inner, heap);
+            inner.leave(0, heap);
+            sound
+        }
+        Err(fault) => {
+            inner.leave(0, heap);
+            Err(fault)
+        }
+    }
 }
 
 /// The sound that an expression is, in an environment, as a sound of the heap
@@ -247,14 +419,16 @@ pub fn eval(
 ) -> Result<Sound, AllocError>
     requires inside { e.0 < length p.now.nodes }
     requires built { built p.now e.0 ≡ true }
-    requires names { AreNamed heap.old binds.now.names }
+    requires names { AllHeld heap.old binds.now.names }
     ensures evaluates { IfOk result (λ s. Evaluates p.now (e.0 + 1) e.0 env binds.now.names heap.old heap.new s) }
     ensures means { IfOk result (λ s. Comes (part_is p.now) heap.old heap.new (item s (λ w. meaning p.now e.0 env (bound_in w binds.now.names)) ∷ [])) }
-    ensures rises { IfOk result (λ s. (rank : ℕ → ℕ) (base : ℕ) → Ranks stack_of heap.old rank → AreLow rank base (sounds_among binds.now.names) → Stands stack_of heap.old heap.new rank (base + stack_of e.0) (s ∷ [])) }
+    ensures rises { IfOk result (λ s. (rank : ℕ → ℕ) (base : ℕ) → Ranks (height_of p.now) heap.old rank → AreLow rank base (sounds_among binds.now.names) → Stands (height_of p.now) heap.old heap.new rank (base + height_of p.now e.0) (s ∷ [])) }
     ensures settles { IfOk result (λ s. IsSettled heap.old → IsSettled heap.new) }
     ensures refused { OnErr result (Hand heap.old heap.new []) }
 {
     p.order_law();
+    p.height_law();
     lawful(heap);
-    Ok(evaluate(alloc, p, e, env, binds, heap)?)
+    let mut frame = Frame::of(alloc, binds)?;
+    Ok(evaluate(alloc, p, e, env, &mut frame, heap)?)
 }

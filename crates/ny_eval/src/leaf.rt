@@ -9,12 +9,14 @@ ghost use Rattle.ny_heap.specs.declared.make.Make.TheVariants.{Leaf as MakesLeaf
 ghost use Rattle.ny_units.specs.Playing.{leaf_value, IsLeaf, Reaches};
 ghost use Rattle.ny_hands.specs.Calls.{MakesUnit, IsSilent};
 ghost use Rattle.ny_hands.specs.Hands.{Hand, GivesUp};
+ghost use Rattle.ny_eval.specs.Framed.{names_in};
 ghost use Rattle.ny_trace.specs.Evaluates.{LeafTurn, numbers_in};
 
 use crate::envelope::knots;
+use crate::frame::Frame;
 use crate::values::numbers;
 use ny_check::operations::number_at;
-use ny_check::{Binds, ExprId, Generator, Program};
+use ny_check::{ExprId, Generator, Program};
 use ny_hands::Branch;
 use ny_heap::{Heap, Leaf, Make, Sound};
 use ny_num::pitch::{increment, key_hz, key_of, seed_of};
@@ -126,16 +128,17 @@ pub(crate) fn make_leaf(
     generator: Generator,
     parts: &[ExprId],
     env: &Env,
-    binds: &Binds<Sound>,
+    frame: &mut Frame<'_>,
     heap: &mut Heap<Branch>,
 ) -> Result<Sound, AllocError>
     requires inside { e.0 ≤ length p.now.nodes }
     requires below { AllBelow e.0 parts.now }
-    ensures turn { IfOk result (λ s. LeafTurn generator env.now (numbers_in p.now binds.now.names parts.now) heap.old heap.new s) }
+    ensures turn { IfOk result (λ s. LeafTurn generator env.now (numbers_in p.now (names_in frame.old) parts.now) heap.old heap.new s) }
+    ensures same { frame.new ≡ frame.old }
     ensures refused { OnErr result (Hand heap.old heap.new []) }
 {
     lawful(heap);
-    let numbers = numbers(alloc, p, e, parts, binds)?;
+    let numbers = numbers(alloc, p, e, parts, frame)?;
     let timing = leaf_time(generator, env, numbers.as_slice());
     let unit = unit_of(alloc, generator, env, numbers.as_slice(), &timing)?;
     Ok(play(alloc, unit, timing, heap)?)

@@ -6,7 +6,7 @@ ghost use Rattle.ny_num.specs.Sound.{IsTiming};
 ghost use Rattle.ny_heap.specs.Heap.{Made};
 ghost use Rattle.ny_heap.specs.Steps.{IsMadeOf, both_timing};
 ghost use Rattle.ny_heap.specs.declared.make.Make.TheVariants.{Pair as PairMake};
-ghost use Rattle.ny_hands.specs.Calls.{MakesUnit, Brings};
+ghost use Rattle.ny_hands.specs.Calls.{MakesUnit, ReleasesAll, Brings};
 ghost use Rattle.ny_hands.specs.Hands.{InHand, GivesUp};
 ghost use Rattle.ny_hands.specs.Made.{IsSingle};
 ghost use Rattle.ny_trace.specs.Evaluates.{BothTurn, OneTurn, JoinTurn, sounds_of_values};
@@ -233,6 +233,7 @@ pub(crate) fn joined(
 pub(crate) fn give_up(value: Value<Sound>, heap: &mut Heap<Branch>)
     requires hands { InHand heap.old (sounds_of_values (value ∷ [])) }
     ensures gives_up { GivesUp heap.old heap.new (sounds_of_values (value ∷ [])) }
+    ensures released { ReleasesAll heap.old heap.new (sounds_of_values (value ∷ [])) }
 {
     if let Value::Sound(sound) = value {
         heap.release(sound);

@@ -1,8 +1,10 @@
 ghost use Rattle.std.specs.Prelude.{◌≡◌, ◌≤◌, length, map, [], IfOk};
 ghost use Rattle.ny_check.specs.Code.{AllBelow};
 ghost use Rattle.ny_trace.specs.Evaluates.{numbers_in};
+ghost use Rattle.ny_eval.specs.Framed.{names_in};
 ghost use Rattle.ny_eval.specs.Values.{number_in};
 
+use crate::frame::Frame;
 use ny_check::{Binds, ExprId, Program, Scalar};
 use ny_heap::Sound;
 use ny_num::Fix;
@@ -34,15 +36,16 @@ pub(crate) fn numbers(
     p: &Program,
     e: ExprId,
     parts: &[ExprId],
-    binds: &Binds<Sound>,
+    frame: &mut Frame<'_>,
 ) -> Result<Vec<Fix>, AllocError>
     requires inside { e.0 ≤ length p.now.nodes }
     requires below { AllBelow e.0 parts.now }
-    ensures { IfOk result (λ vs. vs.items ≡ numbers_in p.now binds.now.names parts.now) }
+    ensures values { IfOk result (λ vs. vs.items ≡ numbers_in p.now (names_in frame.old) parts.now) }
+    ensures same { frame.new ≡ frame.old }
 {
     let mut values = Vec::with_capacity(alloc, parts.len())?;
     for part in parts {
-        values.push(p.number(alloc, *part, binds)?)?;
+        values.push(frame.number(alloc, p, *part)?)?;
     }
     Ok(values)
 }

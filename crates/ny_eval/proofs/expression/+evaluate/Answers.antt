@@ -1,15 +1,21 @@
-use Rattle.std.proofs.Common.{rules, ◌+◌, [], ◌∷◌, arith, refl, sym, ap, subst, ◌∙◌}
+use Rattle.std.proofs.Common.{◌≡◌, rules, ◌+◌, ◌<◌, true, List, [], ◌∷◌, length, take, get_or, arith, refl, sym, ap, subst, ◌∙◌}
 use Rattle.std.proofs.lemmas.Int.{ints}
+use Rattle.std.proofs.lemmas.List.{drop_more}
 use Rattle.ny_hands.proofs.HandLemmas.{hand_none}
 use Rattle.ny_hands.proofs.SpendLemmas.{all_in_hand, all_given_up}
-use Rattle.ny_trace.specs.Evaluates.{IsNoNumber, JoinTurn, sounds_of_values}
+use Rattle.ny_trace.specs.Evaluates.{IsNoNumber, JoinTurn, CallTurn, Evaluates, sounds_of_values}
 use Rattle.ny_kernels.specs.declared.operation.Op.TheVariants.{Sub}
 use Rattle.ny_check.specs.declared.value.Value.TheVariants.{Number}
 use Rattle.ny_trace.proofs.StepLemmas.{lifted, value_lifted}
-use Rattle.ny_eval.specs.Built.{built}
-use Rattle.ny_eval.proofs.AnswerLemmas.{on_err}
-use Rattle.ny_eval.proofs.BuiltLemmas.{pair_parts, sign_part, effect_part, choice_part, change_part}
-use Rattle.ny_eval.proofs.EvalLemmas.{sound_hand, value_hand, values_hand, first_hand, names_after, number_is, no_number, operation_turn, pair_below, sign_below, effect_below, choice_below, change_below, pair_arm, sign_arm, leaf_arm, effect_arm, choice_arm, change_arm, silent_arm}
+use Rattle.ny_resolve.specs.declared.term.NameId.{NameId}
+use Rattle.ny_check.specs.declared.node.ExprId.{ExprId}
+use Rattle.ny_check.specs.Code.{AllBelow, BindsBelow, function_at}
+use Rattle.ny_eval.specs.Built.{built, AreBuilt, AreBindsBuilt}
+use Rattle.ny_eval.specs.Framed.{names_in}
+use Rattle.ny_eval.proofs.AnswerLemmas.{on_err, err_one}
+use Rattle.ny_eval.proofs.BuiltLemmas.{call_parts, block_parts, pair_parts, sign_part, effect_part, choice_part, change_part}
+use Rattle.ny_eval.proofs.EvalLemmas.{sound_hand, value_hand, values_hand, first_hand, held_same, held_after, sound_under, value_under, number_is, no_number, operation_turn, pair_below, sign_below, call_below, block_below, effect_below, choice_below, change_below, pair_arm, sign_arm, name_arm, call_arm, block_arm, leaf_arm, effect_arm, choice_arm, change_arm, silent_arm}
+use Rattle.ny_eval.proofs.BodyLemmas.{below_at, built_part_at, empty_frame, empty_held, empty_count, bound_none, bound_step, bound_grown, passed_none, passed_step, passed_all, passed_grown, keep_refused, grown_still, held_grown, body_hand, leave_within, leave_hands, left_same, left_refused, block_turn, call_turn, if_ok}
 use Rattle.ny_eval.proofs.ShapeLemmas.{effect_single, effect_made}
 use Rattle.ny_eval.proofs.expression.+evaluate.Goals as goal
 
@@ -23,7 +29,31 @@ evaluate-pair-requires t c =
 
 pub evaluate-returns-in_ok-pair-in-Pair-clause-evaluates : goal.evaluate-returns-in_ok-pair-in-Pair-clause-evaluates
 evaluate-returns-in_ok-pair-in-Pair-clause-evaluates t c =
-    pair_arm c.args.p.now c.args.e.0 c.node.result.now c.args.env c.args.binds.now.names c.args.heap.now c.pair.new.heap c.in_ok-pair-in-Pair.field-0 c.node.ensures.value c.node.ensures.ordered c.in-Pair.op c.in-Pair.a c.in-Pair.b c.in-Pair.is c.in_ok-pair-in-Pair.ensures.turn
+    pair_arm c.args.p.now c.args.e.0 c.node.result.now c.args.env (names_in c.args.frame.now) c.args.heap.now c.pair.new.heap c.in_ok-pair-in-Pair.field-0 c.node.ensures.value c.node.ensures.ordered c.in-Pair.op c.in-Pair.a c.in-Pair.b c.in-Pair.is c.in_ok-pair-in-Pair.ensures.turn
+
+pub evaluate-returns-in_ok-named-in-Local-clause-evaluates : goal.evaluate-returns-in_ok-named-in-Local-clause-evaluates
+evaluate-returns-in_ok-named-in-Local-clause-evaluates t c =
+    name_arm c.args.p.now c.args.e.0 c.node.result.now c.args.env (names_in c.args.frame.now) c.args.heap.now c.named.new.heap c.in_ok-named-in-Local.field-0 c.node.ensures.value c.node.ensures.ordered c.in-Local.x c.in-Local.is c.in_ok-named-in-Local.ensures.turn
+
+pub evaluate-call-requires : goal.evaluate-call-requires
+evaluate-call-requires t c =
+    let under = call_below c.args.p.now c.args.e.0 c.in-Call.f c.in-Call.parts c.node.result.now c.in-Call.is c.node.ensures.ordered in
+    let parts = call_parts c.args.p.now c.args.e.0 c.node.result.now c.node.ensures.value c.requires.built c.in-Call.f c.in-Call.parts c.in-Call.is in
+    (omega (arith, c.decreases), (c.requires.inside, (subst (λ es. AllBelow c.args.e.0 es) (sym c.as_slice.ensures) under.0, (under.1, (under.2, (subst (λ es. AreBuilt c.args.p.now es) (sym c.as_slice.ensures) parts.0, (parts.1, c.requires.names)))))))
+
+pub evaluate-returns-in_ok-call-in-Call-clause-evaluates : goal.evaluate-returns-in_ok-call-in-Call-clause-evaluates
+evaluate-returns-in_ok-call-in-Call-clause-evaluates t c =
+    call_arm c.args.p.now c.args.e.0 c.node.result.now c.args.env (names_in c.args.frame.now) c.args.heap.now c.call.new.heap c.in_ok-call-in-Call.field-0 c.node.ensures.value c.node.ensures.ordered c.in-Call.f c.in-Call.parts c.as_slice.result.now c.in-Call.is c.as_slice.ensures c.in_ok-call-in-Call.ensures.turn
+
+pub evaluate-block-requires : goal.evaluate-block-requires
+evaluate-block-requires t c =
+    let under = block_below c.args.p.now c.args.e.0 c.in-Block.binds c.in-Block.value c.node.result.now c.in-Block.is c.node.ensures.ordered in
+    let parts = block_parts c.args.p.now c.args.e.0 c.node.result.now c.node.ensures.value c.requires.built c.in-Block.binds c.in-Block.value c.in-Block.is in
+    (omega (arith, c.decreases), (c.requires.inside, (subst (λ bs. BindsBelow c.args.e.0 bs) (sym c.as_slice-in-Block.ensures) under.0, (under.1, (subst (λ bs. AreBindsBuilt c.args.p.now bs) (sym c.as_slice-in-Block.ensures) parts.0, (parts.1, c.requires.names))))))
+
+pub evaluate-returns-in_ok-block-in-Block-clause-evaluates : goal.evaluate-returns-in_ok-block-in-Block-clause-evaluates
+evaluate-returns-in_ok-block-in-Block-clause-evaluates t c =
+    block_arm c.args.p.now c.args.e.0 c.node.result.now c.args.env (names_in c.args.frame.now) c.args.heap.now c.block.new.heap c.in_ok-block-in-Block.field-0 c.node.ensures.value c.node.ensures.ordered c.in-Block.binds c.in-Block.value c.as_slice-in-Block.result.now c.in-Block.is c.as_slice-in-Block.ensures c.in_ok-block-in-Block.ensures.turn
 
 pub evaluate-negated-requires : goal.evaluate-negated-requires
 evaluate-negated-requires t c =
@@ -33,11 +63,11 @@ evaluate-negated-requires t c =
 
 pub evaluate-returns-in_ok-negated-in-Neg-clause-evaluates : goal.evaluate-returns-in_ok-negated-in-Neg-clause-evaluates
 evaluate-returns-in_ok-negated-in-Neg-clause-evaluates t c =
-    sign_arm c.args.p.now c.args.e.0 c.node.result.now c.args.env c.args.binds.now.names c.args.heap.now c.negated.new.heap c.in_ok-negated-in-Neg.field-0 c.node.ensures.value c.node.ensures.ordered c.in-Neg.a c.in-Neg.is c.in_ok-negated-in-Neg.ensures.turn
+    sign_arm c.args.p.now c.args.e.0 c.node.result.now c.args.env (names_in c.args.frame.now) c.args.heap.now c.negated.new.heap c.in_ok-negated-in-Neg.field-0 c.node.ensures.value c.node.ensures.ordered c.in-Neg.a c.in-Neg.is c.in_ok-negated-in-Neg.ensures.turn
 
 pub evaluate-returns-in_ok-make_leaf-in-Leaf-clause-evaluates : goal.evaluate-returns-in_ok-make_leaf-in-Leaf-clause-evaluates
 evaluate-returns-in_ok-make_leaf-in-Leaf-clause-evaluates t c =
-    leaf_arm c.args.p.now c.args.e.0 c.node.result.now c.args.env c.args.binds.now.names c.args.heap.now c.make_leaf.new.heap c.in_ok-make_leaf-in-Leaf.field-0 c.node.ensures.value c.node.ensures.ordered c.in-Leaf.generator c.in-Leaf.parts c.as_slice.result.now c.in-Leaf.is c.as_slice.ensures c.in_ok-make_leaf-in-Leaf.ensures.turn
+    leaf_arm c.args.p.now c.args.e.0 c.node.result.now c.args.env (names_in c.args.frame.now) c.args.heap.now c.make_leaf.new.heap c.in_ok-make_leaf-in-Leaf.field-0 c.node.ensures.value c.node.ensures.ordered c.in-Leaf.generator c.in-Leaf.parts c.as_slice-in-Leaf.result.now c.in-Leaf.is c.as_slice-in-Leaf.ensures c.in_ok-make_leaf-in-Leaf.ensures.turn
 
 pub evaluate-affected-requires : goal.evaluate-affected-requires
 evaluate-affected-requires t c =
@@ -47,7 +77,7 @@ evaluate-affected-requires t c =
 
 pub evaluate-returns-in_ok-affected-in-Effect-clause-evaluates : goal.evaluate-returns-in_ok-affected-in-Effect-clause-evaluates
 evaluate-returns-in_ok-affected-in-Effect-clause-evaluates t c =
-    effect_arm c.args.p.now c.args.e.0 c.node.result.now c.args.env c.args.binds.now.names c.args.heap.now c.affected.new.heap c.in_ok-affected-in-Effect.field-0 c.node.ensures.value c.node.ensures.ordered c.in-Effect.effect c.in-Effect.part c.in-Effect.parts c.as_slice-in-Effect.result.now c.in-Effect.is c.as_slice-in-Effect.ensures c.in_ok-affected-in-Effect.ensures.turn
+    effect_arm c.args.p.now c.args.e.0 c.node.result.now c.args.env (names_in c.args.frame.now) c.args.heap.now c.affected.new.heap c.in_ok-affected-in-Effect.field-0 c.node.ensures.value c.node.ensures.ordered c.in-Effect.effect c.in-Effect.part c.in-Effect.parts c.as_slice-in-Effect.result.now c.in-Effect.is c.as_slice-in-Effect.ensures c.in_ok-affected-in-Effect.ensures.turn
 
 pub evaluate-returns-in_err-test-in-If-clause-refused : goal.evaluate-returns-in_err-test-in-If-clause-refused
 evaluate-returns-in_err-test-in-If-clause-refused t c = on_err _ _ (hand_none c.args.heap.now c.lawful.ensures)
@@ -56,11 +86,11 @@ pub evaluate-evaluate-requires : goal.evaluate-evaluate-requires
 evaluate-evaluate-requires t c =
     let under = choice_below c.args.p.now c.args.e.0 c.in-If.c c.in-If.a c.in-If.b c.in_ok-test-in-If.field-0 c.chosen-part.result.0 c.node.result.now c.in-If.is c.node.ensures.ordered c.chosen-part.ensures in
     let part = choice_part c.args.p.now c.args.e.0 c.node.result.now c.node.ensures.value c.requires.built c.in-If.c c.in-If.a c.in-If.b c.in_ok-test-in-If.field-0 c.in-If.is in
-    (omega (arith, under, c.decreases), (omega (arith, under, c.requires.inside), (ap (built c.args.p.now) c.chosen-part.ensures ∙ part, c.requires.names)))
+    (omega (arith, under, c.decreases), (omega (arith, under, c.requires.inside), (ap (built c.args.p.now) c.chosen-part.ensures ∙ part, held_same c.args.heap.now c.args.frame.now c.test.new.self c.test.ensures.same c.requires.names)))
 
 pub evaluate-returns-in_ok-evaluate-in-If-clause-evaluates : goal.evaluate-returns-in_ok-evaluate-in-If-clause-evaluates
 evaluate-returns-in_ok-evaluate-in-If-clause-evaluates t c =
-    choice_arm c.args.p.now c.args.e.0 c.node.result.now c.args.env c.args.binds.now.names c.args.heap.now c.evaluate.new.heap c.in_ok-evaluate-in-If.field-0 c.node.ensures.value c.node.ensures.ordered c.in-If.c c.in-If.a c.in-If.b c.in_ok-test-in-If.field-0 c.chosen-part.result.0 c.in-If.is c.in_ok-test-in-If.ensures c.chosen-part.ensures c.in_ok-evaluate-in-If.ensures.evaluates
+    choice_arm c.args.p.now c.args.e.0 c.node.result.now c.args.env (names_in c.args.frame.now) c.args.heap.now c.evaluate.new.heap c.in_ok-evaluate-in-If.field-0 c.node.ensures.value c.node.ensures.ordered c.in-If.c c.in-If.a c.in-If.b c.in_ok-test-in-If.field-0 c.chosen-part.result.0 c.in-If.is c.in_ok-test-in-If.ensures.value c.chosen-part.ensures (sound_under c.args.p.now (c.chosen-part.result.0 + 1) c.chosen-part.result.0 c.args.env c.args.frame.now c.test.new.self c.args.heap.now c.evaluate.new.heap c.in_ok-evaluate-in-If.field-0 c.test.ensures.same c.in_ok-evaluate-in-If.ensures.evaluates)
 
 pub evaluate-returns-in_err-apply-in-Change-clause-refused : goal.evaluate-returns-in_err-apply-in-Change-clause-refused
 evaluate-returns-in_err-apply-in-Change-clause-refused t c = on_err _ _ (hand_none c.args.heap.now c.lawful.ensures)
@@ -69,20 +99,21 @@ pub evaluate-evaluate-requires-in-Change : goal.evaluate-evaluate-requires-in-Ch
 evaluate-evaluate-requires-in-Change t c =
     let under = change_below c.args.p.now c.args.e.0 c.in-Change.change c.in-Change.part c.node.result.now c.in-Change.is c.node.ensures.ordered in
     let part = change_part c.args.p.now c.args.e.0 c.node.result.now c.node.ensures.value c.requires.built c.in-Change.change c.in-Change.part c.in-Change.is in
-    (omega (arith, under, c.decreases), (omega (arith, under, c.requires.inside), (part, c.requires.names)))
+    (omega (arith, under, c.decreases), (omega (arith, under, c.requires.inside), (part, held_same c.args.heap.now c.args.frame.now c.apply.new.frame c.apply.ensures.same c.requires.names)))
 
 pub evaluate-returns-in_ok-evaluate-in-Change-clause-evaluates : goal.evaluate-returns-in_ok-evaluate-in-Change-clause-evaluates
 evaluate-returns-in_ok-evaluate-in-Change-clause-evaluates t c =
-    change_arm c.args.p.now c.args.e.0 c.node.result.now c.args.env c.args.binds.now.names c.args.heap.now c.evaluate-in-Change.new.heap c.in_ok-evaluate-in-Change.field-0 c.node.ensures.value c.node.ensures.ordered c.in-Change.change c.in-Change.part c.apply.new.env c.in-Change.is c.in_ok-apply-in-Change.ensures c.in_ok-evaluate-in-Change.ensures.evaluates
+    change_arm c.args.p.now c.args.e.0 c.node.result.now c.args.env (names_in c.args.frame.now) c.args.heap.now c.evaluate-in-Change.new.heap c.in_ok-evaluate-in-Change.field-0 c.node.ensures.value c.node.ensures.ordered c.in-Change.change c.in-Change.part c.apply.new.env c.in-Change.is c.in_ok-apply-in-Change.ensures.changed (sound_under c.args.p.now (c.in-Change.part.0 + 1) c.in-Change.part.0 c.apply.new.env c.args.frame.now c.apply.new.frame c.args.heap.now c.evaluate-in-Change.new.heap c.in_ok-evaluate-in-Change.field-0 c.apply.ensures.same c.in_ok-evaluate-in-Change.ensures.evaluates)
 
 pub evaluate-returns-in_err-silent-in_default : goal.evaluate-returns-in_err-silent-in_default
-evaluate-returns-in_err-silent-in_default t c = record { evaluates = search rules; refused = on_err _ _ (all_given_up c.args.heap.now c.args.heap.now c.silent.new.heap [] c.lawful.ensures (hand_none c.args.heap.now c.lawful.ensures) c.in_err-silent-in_default.ensures.gives_up) }
+evaluate-returns-in_err-silent-in_default t c = record { evaluates = search rules; same = refl; refused = on_err _ _ (all_given_up c.args.heap.now c.args.heap.now c.silent.new.heap [] c.lawful.ensures (hand_none c.args.heap.now c.lawful.ensures) c.in_err-silent-in_default.ensures.gives_up) }
 
 pub evaluate-returns-in_ok-silent-in_default : goal.evaluate-returns-in_ok-silent-in_default
 evaluate-returns-in_ok-silent-in_default t c =
     let no = c.in_default in
     record {
-      evaluates = silent_arm c.args.p.now c.args.e.0 c.node.result.now c.args.env c.args.binds.now.names c.args.heap.now c.silent.new.heap c.in_ok-silent-in_default.field-0 c.node.ensures.value c.node.ensures.ordered no.not-Pair no.not-Neg no.not-Leaf no.not-Effect no.not-If no.not-Change c.in_ok-silent-in_default.ensures.silent c.requires.built;
+      evaluates = silent_arm c.args.p.now c.args.e.0 c.node.result.now c.args.env (names_in c.args.frame.now) c.args.heap.now c.silent.new.heap c.in_ok-silent-in_default.field-0 c.node.ensures.value c.node.ensures.ordered no.not-Local no.not-Call no.not-Block no.not-Pair no.not-Neg no.not-Leaf no.not-Effect no.not-If no.not-Change c.in_ok-silent-in_default.ensures.silent c.requires.built;
+      same = refl;
       refused = tt;
     }
 
@@ -92,10 +123,13 @@ pub operand-returns-in_err-scalar-clause-refused : goal.operand-returns-in_err-s
 operand-returns-in_err-scalar-clause-refused t c = on_err _ _ (hand_none c.args.heap.now c.lawful.ensures)
 
 pub operand-returns-in-Some-clause-turn : goal.operand-returns-in-Some-clause-turn
-operand-returns-in-Some-clause-turn t c = (sym c.in_ok-scalar.ensures ∙ number_is c.in_ok-scalar.scalar c.in-Some.v (sym c.in-Some.is ∙ c.number_in.ensures), refl)
+operand-returns-in-Some-clause-turn t c = (sym c.in_ok-scalar.ensures.value ∙ number_is c.in_ok-scalar.scalar c.in-Some.v (sym c.in-Some.is ∙ c.number_in.ensures), refl)
 
 pub operand-returns-in_ok-evaluate-in-None-clause-turn : goal.operand-returns-in_ok-evaluate-in-None-clause-turn
-operand-returns-in_ok-evaluate-in-None-clause-turn t c = (subst IsNoNumber c.in_ok-scalar.ensures (no_number c.in_ok-scalar.scalar (sym c.in-None.is ∙ c.number_in.ensures)), c.in_ok-evaluate-in-None.ensures.evaluates)
+operand-returns-in_ok-evaluate-in-None-clause-turn t c = (subst IsNoNumber c.in_ok-scalar.ensures.value (no_number c.in_ok-scalar.scalar (sym c.in-None.is ∙ c.number_in.ensures)), sound_under c.args.p.now (c.args.e.0 + 1) c.args.e.0 c.args.env c.args.frame.now c.scalar.new.self c.args.heap.now c.evaluate.new.heap c.in_ok-evaluate-in-None.field-0 c.scalar.ensures.same c.in_ok-evaluate-in-None.ensures.evaluates)
+
+pub operand-evaluate-requires : goal.operand-evaluate-requires
+operand-evaluate-requires t c = (omega (arith, c.decreases), (c.requires.inside, (c.requires.built, held_same c.args.heap.now c.args.frame.now c.scalar.new.self c.scalar.ensures.same c.requires.names)))
 
 -- ---- two operands
 
@@ -104,62 +138,65 @@ pair-returns-in_err-copy-clause-refused t c = on_err _ _ (hand_none c.args.heap.
 
 pub pair-operand-requires-2 : goal.pair-operand-requires-2
 pair-operand-requires-2 t c =
-    let one = value_hand c.args.p.now c.order_law.ensures.ordered (c.args.a.0 + 1) c.args.a c.in_ok-copy.field-0 c.args.binds.now.names c.args.heap.now c.operand.new.heap c.in_ok-left.left c.requires.first c.requires.built_first c.lawful.ensures c.requires.names c.in_ok-left.ensures.turn in
-    (omega (arith, c.decreases), (c.requires.second, (c.requires.built_second, names_after c.args.heap.now c.operand.new.heap (sounds_of_values (c.in_ok-left.left ∷ [])) c.args.binds.now.names one c.requires.names)))
+    let one = value_hand c.args.p.now c.order_law.ensures.ordered (c.args.a.0 + 1) c.args.a c.in_ok-copy.field-0 (names_in c.args.frame.now) c.args.heap.now c.operand.new.heap c.in_ok-left.left c.requires.first c.requires.built_first c.lawful.ensures c.requires.names c.in_ok-left.ensures.turn in
+    (omega (arith, c.decreases), (c.requires.second, (c.requires.built_second, held_after c.args.heap.now c.operand.new.heap (sounds_of_values (c.in_ok-left.left ∷ [])) c.args.frame.now c.operand.new.frame c.lawful.ensures one c.operand.ensures.same c.requires.names)))
 
 pub pair-joined-requires : goal.pair-joined-requires
 pair-joined-requires t c =
-    let one = value_hand c.args.p.now c.order_law.ensures.ordered (c.args.a.0 + 1) c.args.a c.in_ok-copy.field-0 c.args.binds.now.names c.args.heap.now c.operand.new.heap c.in_ok-left.left c.requires.first c.requires.built_first c.lawful.ensures c.requires.names c.in_ok-left.ensures.turn in
-    let named = names_after c.args.heap.now c.operand.new.heap (sounds_of_values (c.in_ok-left.left ∷ [])) c.args.binds.now.names one c.requires.names in
-    let two = value_hand c.args.p.now c.order_law.ensures.ordered (c.args.b.0 + 1) c.args.b c.args.env c.args.binds.now.names c.operand.new.heap c.operand-2.new.heap c.in-Ok.right c.requires.second c.requires.built_second one.laws named c.in-Ok.ensures.turn in
+    let one = value_hand c.args.p.now c.order_law.ensures.ordered (c.args.a.0 + 1) c.args.a c.in_ok-copy.field-0 (names_in c.args.frame.now) c.args.heap.now c.operand.new.heap c.in_ok-left.left c.requires.first c.requires.built_first c.lawful.ensures c.requires.names c.in_ok-left.ensures.turn in
+    let named = held_after c.args.heap.now c.operand.new.heap (sounds_of_values (c.in_ok-left.left ∷ [])) c.args.frame.now c.operand.new.frame c.lawful.ensures one c.operand.ensures.same c.requires.names in
+    let two = value_hand c.args.p.now c.order_law.ensures.ordered (c.args.b.0 + 1) c.args.b c.args.env (names_in c.operand.new.frame) c.operand.new.heap c.operand-2.new.heap c.in-Ok.right c.requires.second c.requires.built_second one.laws named c.in-Ok.ensures.turn in
     record { hands = all_in_hand c.args.heap.now c.operand-2.new.heap (sounds_of_values (c.in_ok-left.left ∷ c.in-Ok.right ∷ [])) c.lawful.ensures (values_hand c.args.heap.now c.operand.new.heap c.operand-2.new.heap c.in_ok-left.left c.in-Ok.right one two) }
 
 pub pair-returns-in_err-joined-in-Ok-clause-refused : goal.pair-returns-in_err-joined-in-Ok-clause-refused
 pair-returns-in_err-joined-in-Ok-clause-refused t c =
-    let one = value_hand c.args.p.now c.order_law.ensures.ordered (c.args.a.0 + 1) c.args.a c.in_ok-copy.field-0 c.args.binds.now.names c.args.heap.now c.operand.new.heap c.in_ok-left.left c.requires.first c.requires.built_first c.lawful.ensures c.requires.names c.in_ok-left.ensures.turn in
-    let named = names_after c.args.heap.now c.operand.new.heap (sounds_of_values (c.in_ok-left.left ∷ [])) c.args.binds.now.names one c.requires.names in
-    let two = value_hand c.args.p.now c.order_law.ensures.ordered (c.args.b.0 + 1) c.args.b c.args.env c.args.binds.now.names c.operand.new.heap c.operand-2.new.heap c.in-Ok.right c.requires.second c.requires.built_second one.laws named c.in-Ok.ensures.turn in
+    let one = value_hand c.args.p.now c.order_law.ensures.ordered (c.args.a.0 + 1) c.args.a c.in_ok-copy.field-0 (names_in c.args.frame.now) c.args.heap.now c.operand.new.heap c.in_ok-left.left c.requires.first c.requires.built_first c.lawful.ensures c.requires.names c.in_ok-left.ensures.turn in
+    let named = held_after c.args.heap.now c.operand.new.heap (sounds_of_values (c.in_ok-left.left ∷ [])) c.args.frame.now c.operand.new.frame c.lawful.ensures one c.operand.ensures.same c.requires.names in
+    let two = value_hand c.args.p.now c.order_law.ensures.ordered (c.args.b.0 + 1) c.args.b c.args.env (names_in c.operand.new.frame) c.operand.new.heap c.operand-2.new.heap c.in-Ok.right c.requires.second c.requires.built_second one.laws named c.in-Ok.ensures.turn in
     on_err _ _ (all_given_up c.args.heap.now c.operand-2.new.heap c.joined.new.heap (sounds_of_values (c.in_ok-left.left ∷ c.in-Ok.right ∷ [])) c.lawful.ensures (values_hand c.args.heap.now c.operand.new.heap c.operand-2.new.heap c.in_ok-left.left c.in-Ok.right one two) c.in_err-joined-in-Ok.ensures.gives_up)
 
 pub pair-returns-in_ok-joined-in-Ok-clause-turn : goal.pair-returns-in_ok-joined-in-Ok-clause-turn
 pair-returns-in_ok-joined-in-Ok-clause-turn t c n less =
-    operation_turn c.args.p.now c.args.op c.args.a c.args.b c.args.env c.in_ok-copy.field-0 c.args.binds.now.names c.args.heap.now c.operand.new.heap c.operand-2.new.heap c.joined.new.heap c.in_ok-left.left c.in-Ok.right c.in_ok-joined-in-Ok.field-0 n c.in_ok-copy.ensures less c.in_ok-left.ensures.turn c.in-Ok.ensures.turn c.in_ok-joined-in-Ok.ensures.turn
+    operation_turn c.args.p.now c.args.op c.args.a c.args.b c.args.env c.in_ok-copy.field-0 (names_in c.args.frame.now) c.args.heap.now c.operand.new.heap c.operand-2.new.heap c.joined.new.heap c.in_ok-left.left c.in-Ok.right c.in_ok-joined-in-Ok.field-0 n c.in_ok-copy.ensures less c.in_ok-left.ensures.turn (value_under c.args.p.now (c.args.b.0 + 1) c.args.b c.args.env c.args.frame.now c.operand.new.frame c.operand.new.heap c.operand-2.new.heap c.in-Ok.right c.operand.ensures.same c.in-Ok.ensures.turn) c.in_ok-joined-in-Ok.ensures.turn
 
 pub pair-give_up-requires : goal.pair-give_up-requires
 pair-give_up-requires t c =
-    let one = value_hand c.args.p.now c.order_law.ensures.ordered (c.args.a.0 + 1) c.args.a c.in_ok-copy.field-0 c.args.binds.now.names c.args.heap.now c.operand.new.heap c.in_ok-left.left c.requires.first c.requires.built_first c.lawful.ensures c.requires.names c.in_ok-left.ensures.turn in
+    let one = value_hand c.args.p.now c.order_law.ensures.ordered (c.args.a.0 + 1) c.args.a c.in_ok-copy.field-0 (names_in c.args.frame.now) c.args.heap.now c.operand.new.heap c.in_ok-left.left c.requires.first c.requires.built_first c.lawful.ensures c.requires.names c.in_ok-left.ensures.turn in
     record { hands = all_in_hand c.args.heap.now c.operand-2.new.heap (sounds_of_values (c.in_ok-left.left ∷ [])) c.lawful.ensures (first_hand c.args.heap.now c.operand.new.heap c.operand-2.new.heap c.in_ok-left.left one c.in-Err.ensures.refused) }
 
 pub pair-returns-in-Err-clause-refused : goal.pair-returns-in-Err-clause-refused
 pair-returns-in-Err-clause-refused t c =
-    let one = value_hand c.args.p.now c.order_law.ensures.ordered (c.args.a.0 + 1) c.args.a c.in_ok-copy.field-0 c.args.binds.now.names c.args.heap.now c.operand.new.heap c.in_ok-left.left c.requires.first c.requires.built_first c.lawful.ensures c.requires.names c.in_ok-left.ensures.turn in
+    let one = value_hand c.args.p.now c.order_law.ensures.ordered (c.args.a.0 + 1) c.args.a c.in_ok-copy.field-0 (names_in c.args.frame.now) c.args.heap.now c.operand.new.heap c.in_ok-left.left c.requires.first c.requires.built_first c.lawful.ensures c.requires.names c.in_ok-left.ensures.turn in
     all_given_up c.args.heap.now c.operand-2.new.heap c.give_up.new.heap (sounds_of_values (c.in_ok-left.left ∷ [])) c.lawful.ensures (first_hand c.args.heap.now c.operand.new.heap c.operand-2.new.heap c.in_ok-left.left one c.in-Err.ensures.refused) c.give_up.ensures.gives_up
 
 -- ---- the other sign
 
 pub negated-joined-requires : goal.negated-joined-requires
 negated-joined-requires t c =
-    let one = value_hand c.args.p.now c.order_law.ensures.ordered (c.args.a.0 + 1) c.args.a c.args.env c.args.binds.now.names c.args.heap.now c.operand.new.heap c.in_ok-value.value c.requires.inside c.requires.built c.lawful.ensures c.requires.names c.in_ok-value.ensures.turn in
+    let one = value_hand c.args.p.now c.order_law.ensures.ordered (c.args.a.0 + 1) c.args.a c.args.env (names_in c.args.frame.now) c.args.heap.now c.operand.new.heap c.in_ok-value.value c.requires.inside c.requires.built c.lawful.ensures c.requires.names c.in_ok-value.ensures.turn in
     record { hands = all_in_hand c.args.heap.now c.operand.new.heap (sounds_of_values (c.in_ok-value.value ∷ [])) c.lawful.ensures one }
 
 pub negated-returns-in_err-joined-clause-refused : goal.negated-returns-in_err-joined-clause-refused
 negated-returns-in_err-joined-clause-refused t c =
-    let one = value_hand c.args.p.now c.order_law.ensures.ordered (c.args.a.0 + 1) c.args.a c.args.env c.args.binds.now.names c.args.heap.now c.operand.new.heap c.in_ok-value.value c.requires.inside c.requires.built c.lawful.ensures c.requires.names c.in_ok-value.ensures.turn in
+    let one = value_hand c.args.p.now c.order_law.ensures.ordered (c.args.a.0 + 1) c.args.a c.args.env (names_in c.args.frame.now) c.args.heap.now c.operand.new.heap c.in_ok-value.value c.requires.inside c.requires.built c.lawful.ensures c.requires.names c.in_ok-value.ensures.turn in
     on_err _ _ (all_given_up c.args.heap.now c.operand.new.heap c.joined.new.heap (sounds_of_values (c.in_ok-value.value ∷ [])) c.lawful.ensures one c.in_err-joined.ensures.gives_up)
 
 pub negated-returns-clause-turn : goal.negated-returns-clause-turn
 negated-returns-clause-turn t c n less =
-    record { value = c.in_ok-value.value; mid = c.operand.new.heap; operand = value_lifted c.args.p.now (c.args.a.0 + 1) n c.args.a c.args.env c.args.binds.now.names c.args.heap.now c.operand.new.heap c.in_ok-value.value (omega (arith, less)) c.in_ok-value.ensures.turn; joined = subst (λ k. JoinTurn Sub c.args.env.sound_rate (Number k) c.in_ok-value.value c.operand.new.heap c.joined.new.heap c.in_ok-joined.field-0) (c.of.ensures.exact (omega (arith, ints), omega (arith, ints))) c.in_ok-joined.ensures.turn }
+    record { value = c.in_ok-value.value; mid = c.operand.new.heap; operand = value_lifted c.args.p.now (c.args.a.0 + 1) n c.args.a c.args.env (names_in c.args.frame.now) c.args.heap.now c.operand.new.heap c.in_ok-value.value (omega (arith, less)) c.in_ok-value.ensures.turn; joined = subst (λ k. JoinTurn Sub c.args.env.sound_rate (Number k) c.in_ok-value.value c.operand.new.heap c.joined.new.heap c.in_ok-joined.field-0) (c.of.ensures.exact (omega (arith, ints), omega (arith, ints))) c.in_ok-joined.ensures.turn }
 
 -- ---- an effect
 
 pub affected-returns-in_err-numbers-clause-refused : goal.affected-returns-in_err-numbers-clause-refused
 affected-returns-in_err-numbers-clause-refused t c = on_err _ _ (hand_none c.args.heap.now c.lawful.ensures)
 
+pub affected-evaluate-requires : goal.affected-evaluate-requires
+affected-evaluate-requires t c = (omega (arith, c.decreases), (c.requires.part, (c.requires.built, held_same c.args.heap.now c.args.frame.now c.numbers.new.frame c.numbers.ensures.same c.requires.names)))
+
 pub affected-single-requires-clause-hands : goal.affected-single-requires-clause-hands
 affected-single-requires-clause-hands t c =
     all_in_hand c.args.heap.now c.evaluate.new.heap (c.in_ok-sound.sound ∷ []) c.lawful.ensures
-    (sound_hand c.args.p.now c.order_law.ensures.ordered (c.args.part.0 + 1) c.args.part.0 c.args.env c.args.binds.now.names c.args.heap.now c.evaluate.new.heap c.in_ok-sound.sound c.requires.part c.requires.built c.lawful.ensures c.requires.names c.in_ok-sound.ensures.evaluates)
+    (sound_hand c.args.p.now c.order_law.ensures.ordered (c.args.part.0 + 1) c.args.part.0 c.args.env (names_in c.numbers.new.frame) c.args.heap.now c.evaluate.new.heap c.in_ok-sound.sound c.requires.part c.requires.built c.lawful.ensures (held_same c.args.heap.now c.args.frame.now c.numbers.new.frame c.numbers.ensures.same c.requires.names) c.in_ok-sound.ensures.evaluates)
 
 pub affected-single-requires-clause-made : goal.affected-single-requires-clause-made
 affected-single-requires-clause-made t c = effect_single c.args.effect c.as_slice.result.now c.in_ok-sound.sound.timing.rate c.make_of-make.result c.make_of-make.ensures
@@ -167,15 +204,197 @@ affected-single-requires-clause-made t c = effect_single c.args.effect c.as_slic
 pub affected-returns-in_err-single-clause-refused : goal.affected-returns-in_err-single-clause-refused
 affected-returns-in_err-single-clause-refused t c =
     on_err _ _ (all_given_up c.args.heap.now c.evaluate.new.heap c.single.new.heap (c.in_ok-sound.sound ∷ []) c.lawful.ensures
-    (sound_hand c.args.p.now c.order_law.ensures.ordered (c.args.part.0 + 1) c.args.part.0 c.args.env c.args.binds.now.names c.args.heap.now c.evaluate.new.heap c.in_ok-sound.sound c.requires.part c.requires.built c.lawful.ensures c.requires.names c.in_ok-sound.ensures.evaluates)
+    (sound_hand c.args.p.now c.order_law.ensures.ordered (c.args.part.0 + 1) c.args.part.0 c.args.env (names_in c.numbers.new.frame) c.args.heap.now c.evaluate.new.heap c.in_ok-sound.sound c.requires.part c.requires.built c.lawful.ensures (held_same c.args.heap.now c.args.frame.now c.numbers.new.frame c.numbers.ensures.same c.requires.names) c.in_ok-sound.ensures.evaluates)
     c.in_err-single.ensures.gives_up)
 
 pub affected-returns-clause-turn : goal.affected-returns-clause-turn
 affected-returns-clause-turn t c n less = record {
   part = c.in_ok-sound.sound;
   mid = c.evaluate.new.heap;
-  evaluates = lifted c.args.p.now (c.args.part.0 + 1) n c.args.part.0 c.args.env c.args.binds.now.names c.args.heap.now c.evaluate.new.heap c.in_ok-sound.sound (omega (arith, less)) c.in_ok-sound.ensures.evaluates;
+  evaluates = lifted c.args.p.now (c.args.part.0 + 1) n c.args.part.0 c.args.env (names_in c.args.frame.now) c.args.heap.now c.evaluate.new.heap c.in_ok-sound.sound (omega (arith, less)) (sound_under c.args.p.now (c.args.part.0 + 1) c.args.part.0 c.args.env c.args.frame.now c.numbers.new.frame c.args.heap.now c.evaluate.new.heap c.in_ok-sound.sound c.numbers.ensures.same c.in_ok-sound.ensures.evaluates);
   unit = c.make_of-make.result;
-  is = effect_made c.args.effect c.as_slice.result.now _ c.in_ok-sound.sound.timing.rate c.make_of-make.result c.make_of-make.ensures (c.as_slice.ensures.value ∙ c.in_ok-numbers.ensures);
+  is = effect_made c.args.effect c.as_slice.result.now _ c.in_ok-sound.sound.timing.rate c.make_of-make.result c.make_of-make.ensures (c.as_slice.ensures.value ∙ c.in_ok-numbers.ensures.values);
   made = c.in_ok-single.ensures.makes;
 }
+
+-- ---- a block
+
+pub bind_all-loop-name-init : goal.bind_all-loop-name-init
+bind_all-loop-name-init t c = record { so_far = bound_none c.args.p.now c.args.e.0 c.args.env.now c.args.frame.now c.args.heap.now c.lawful.ensures; below = c.requires.below; built = c.requires.built }
+
+pub block-evaluate-sound-requires : goal.block-evaluate-sound-requires
+block-evaluate-sound-requires t c =
+    let grown = bound_grown c.args.p.now c.args.e.0 c.args.env c.args.binds.now c.args.frame.now c.bind_all.new.frame c.args.heap.now c.bind_all.new.heap c.in-Ok.ensures.bound in
+    (omega (arith, c.requires.value, c.decreases), (omega (arith, c.requires.value, c.requires.inside), (c.requires.built_value, held_grown c.args.frame.now c.bind_all.new.frame c.args.heap.now c.bind_all.new.heap c.lawful.ensures grown c.requires.names)))
+
+pub block-leave-requires : goal.block-leave-requires
+block-leave-requires t c =
+    let grown = bound_grown c.args.p.now c.args.e.0 c.args.env c.args.binds.now c.args.frame.now c.bind_all.new.frame c.args.heap.now c.bind_all.new.heap c.in-Ok.ensures.bound in
+    let held = held_grown c.args.frame.now c.bind_all.new.frame c.args.heap.now c.bind_all.new.heap c.lawful.ensures grown c.requires.names in
+    let body = body_hand c.args.p.now c.order_law.ensures.ordered (c.args.value.0 + 1) c.args.value.0 c.args.env (names_in c.bind_all.new.frame) c.bind_all.new.heap c.evaluate-sound.new.heap c.evaluate-sound.result (omega (arith, c.requires.value, c.requires.inside)) c.requires.built_value grown.hand.laws held c.evaluate-sound.ensures.evaluates c.evaluate-sound.ensures.refused in
+    record {
+      within = leave_within c.args.frame.now c.bind_all.new.frame c.evaluate-sound.new.frame c.args.heap.now c.bind_all.new.heap c.evaluate-sound.new.heap c.len-before.result c.lawful.ensures grown c.evaluate-sound.ensures.same c.len-before.ensures;
+      hands = leave_hands c.args.frame.now c.bind_all.new.frame c.evaluate-sound.new.frame c.args.heap.now c.bind_all.new.heap c.evaluate-sound.new.heap c.len-before.result c.lawful.ensures grown c.evaluate-sound.ensures.same c.len-before.ensures body;
+    }
+
+pub block-leave-requires-in-Err : goal.block-leave-requires-in-Err
+block-leave-requires-in-Err t c =
+    let grown = c.in-Err.ensures.grown in
+    record {
+      within = leave_within c.args.frame.now c.bind_all.new.frame c.bind_all.new.frame c.args.heap.now c.bind_all.new.heap c.bind_all.new.heap c.len-before.result c.lawful.ensures grown refl c.len-before.ensures;
+      hands = leave_hands c.args.frame.now c.bind_all.new.frame c.bind_all.new.frame c.args.heap.now c.bind_all.new.heap c.bind_all.new.heap c.len-before.result c.lawful.ensures grown refl c.len-before.ensures ([], hand_none c.bind_all.new.heap grown.hand.laws);
+    }
+
+pub block-returns-in-Ok-clause-turn : goal.block-returns-in-Ok-clause-turn
+block-returns-in-Ok-clause-turn t c =
+    if_ok c.evaluate-sound.result _ _
+    (λ s evaluates. block_turn c.args.p.now c.args.e.0 c.args.env c.args.binds.now c.args.value c.args.frame.now c.bind_all.new.frame c.evaluate-sound.new.frame c.args.heap.now c.bind_all.new.heap c.evaluate-sound.new.heap c.leave.new.heap s c.len-before.result c.requires.value c.in-Ok.ensures.bound c.evaluate-sound.ensures.same c.len-before.ensures evaluates c.leave.ensures.released)
+    c.evaluate-sound.ensures.evaluates
+
+pub block-returns-in-Ok-clause-same : goal.block-returns-in-Ok-clause-same
+block-returns-in-Ok-clause-same t c =
+    let grown = bound_grown c.args.p.now c.args.e.0 c.args.env c.args.binds.now c.args.frame.now c.bind_all.new.frame c.args.heap.now c.bind_all.new.heap c.in-Ok.ensures.bound in
+    left_same c.args.frame.now c.bind_all.new.frame c.evaluate-sound.new.frame c.args.heap.now c.bind_all.new.heap c.evaluate-sound.new.heap c.len-before.result c.lawful.ensures grown c.evaluate-sound.ensures.same c.len-before.ensures c.leave.new.self c.leave.ensures.left
+
+pub block-returns-in-Ok-clause-refused : goal.block-returns-in-Ok-clause-refused
+block-returns-in-Ok-clause-refused t c =
+    let grown = bound_grown c.args.p.now c.args.e.0 c.args.env c.args.binds.now c.args.frame.now c.bind_all.new.frame c.args.heap.now c.bind_all.new.heap c.in-Ok.ensures.bound in
+    err_one c.evaluate-sound.result _ _ (λ hand. left_refused c.args.frame.now c.bind_all.new.frame c.evaluate-sound.new.frame c.args.heap.now c.bind_all.new.heap c.evaluate-sound.new.heap c.len-before.result c.lawful.ensures grown c.evaluate-sound.ensures.same c.len-before.ensures c.leave.new.heap c.leave.ensures.released hand) c.evaluate-sound.ensures.refused
+
+pub block-returns-in-Err-clause-same : goal.block-returns-in-Err-clause-same
+block-returns-in-Err-clause-same t c =
+    left_same c.args.frame.now c.bind_all.new.frame c.bind_all.new.frame c.args.heap.now c.bind_all.new.heap c.bind_all.new.heap c.len-before.result c.lawful.ensures c.in-Err.ensures.grown refl c.len-before.ensures c.leave-in-Err.new.self c.leave-in-Err.ensures.left
+
+pub block-returns-in-Err-clause-refused : goal.block-returns-in-Err-clause-refused
+block-returns-in-Err-clause-refused t c =
+    left_refused c.args.frame.now c.bind_all.new.frame c.bind_all.new.frame c.args.heap.now c.bind_all.new.heap c.bind_all.new.heap c.len-before.result c.lawful.ensures c.in-Err.ensures.grown refl c.len-before.ensures c.leave-in-Err.new.heap c.leave-in-Err.ensures.released (hand_none c.bind_all.new.heap c.in-Err.ensures.grown.hand.laws)
+
+-- ---- a call
+
+pub arguments-loop-i-init : goal.arguments-loop-i-init
+arguments-loop-i-init t c = record { so_far = passed_none c.args.p.now c.args.e.0 c.args.env.now (names_in c.args.frame.now) c.args.params.now c.args.parts.now c.args.inner.now c.args.heap.now c.lawful.ensures; same = refl }
+
+pub call-returns-in_err-inner-clause-refused : goal.call-returns-in_err-inner-clause-refused
+call-returns-in_err-inner-clause-refused t c = on_err _ _ (hand_none c.args.heap.now c.lawful.ensures)
+
+pub call-evaluate-sound-requires : goal.call-evaluate-sound-requires
+call-evaluate-sound-requires t c =
+    let grown = passed_grown c.args.p.now c.args.e.0 c.args.env (names_in c.args.frame.now) c.params.result.now (take (length c.params.result.now) c.args.parts.now) c.in_ok-inner.inner c.arguments.new.inner c.args.heap.now c.arguments.new.heap c.in-Ok.ensures.passed in
+    let empty = empty_frame c.in_ok-inner.inner c.no_names-none.result.names c.in_ok-inner.ensures c.no_names-none.ensures in
+    let below : c.body.result.0 < c.args.e.0 = subst (λ (x : ExprId). x.0 < c.args.e.0) (sym c.body.ensures.value) c.requires.body in
+    (omega (arith, below, c.decreases), (omega (arith, below, c.requires.inside), (subst (λ (x : ExprId). built c.args.p.now x.0 ≡ true) (sym c.body.ensures.value) c.requires.built_body, held_grown c.in_ok-inner.inner c.arguments.new.inner c.args.heap.now c.arguments.new.heap c.lawful.ensures grown (empty_held c.args.heap.now c.in_ok-inner.inner empty))))
+
+pub call-leave-requires : goal.call-leave-requires
+call-leave-requires t c =
+    let grown = passed_grown c.args.p.now c.args.e.0 c.args.env (names_in c.args.frame.now) c.params.result.now (take (length c.params.result.now) c.args.parts.now) c.in_ok-inner.inner c.arguments.new.inner c.args.heap.now c.arguments.new.heap c.in-Ok.ensures.passed in
+    let empty = empty_frame c.in_ok-inner.inner c.no_names-none.result.names c.in_ok-inner.ensures c.no_names-none.ensures in
+    let below : c.body.result.0 < c.args.e.0 = subst (λ (x : ExprId). x.0 < c.args.e.0) (sym c.body.ensures.value) c.requires.body in
+    let held = held_grown c.in_ok-inner.inner c.arguments.new.inner c.args.heap.now c.arguments.new.heap c.lawful.ensures grown (empty_held c.args.heap.now c.in_ok-inner.inner empty) in
+    let body = body_hand c.args.p.now c.order_law.ensures.ordered (c.body.result.0 + 1) c.body.result.0 c.args.env (names_in c.arguments.new.inner) c.arguments.new.heap c.evaluate-sound.new.heap c.evaluate-sound.result (omega (arith, below, c.requires.inside)) (subst (λ (x : ExprId). built c.args.p.now x.0 ≡ true) (sym c.body.ensures.value) c.requires.built_body) grown.hand.laws held c.evaluate-sound.ensures.evaluates c.evaluate-sound.ensures.refused in
+    record {
+      within = leave_within c.in_ok-inner.inner c.arguments.new.inner c.evaluate-sound.new.frame c.args.heap.now c.arguments.new.heap c.evaluate-sound.new.heap 0 c.lawful.ensures grown c.evaluate-sound.ensures.same (empty_count c.in_ok-inner.inner empty);
+      hands = leave_hands c.in_ok-inner.inner c.arguments.new.inner c.evaluate-sound.new.frame c.args.heap.now c.arguments.new.heap c.evaluate-sound.new.heap 0 c.lawful.ensures grown c.evaluate-sound.ensures.same (empty_count c.in_ok-inner.inner empty) body;
+    }
+
+pub call-leave-requires-in-Err : goal.call-leave-requires-in-Err
+call-leave-requires-in-Err t c =
+    let grown = c.in-Err.ensures.grown in
+    let empty = empty_frame c.in_ok-inner.inner c.no_names-none.result.names c.in_ok-inner.ensures c.no_names-none.ensures in
+    record {
+      within = leave_within c.in_ok-inner.inner c.arguments.new.inner c.arguments.new.inner c.args.heap.now c.arguments.new.heap c.arguments.new.heap 0 c.lawful.ensures grown refl (empty_count c.in_ok-inner.inner empty);
+      hands = leave_hands c.in_ok-inner.inner c.arguments.new.inner c.arguments.new.inner c.args.heap.now c.arguments.new.heap c.arguments.new.heap 0 c.lawful.ensures grown refl (empty_count c.in_ok-inner.inner empty) ([], hand_none c.arguments.new.heap grown.hand.laws);
+    }
+
+pub call-returns-in-Ok-clause-turn : goal.call-returns-in-Ok-clause-turn
+call-returns-in-Ok-clause-turn t c =
+    let empty = empty_frame c.in_ok-inner.inner c.no_names-none.result.names c.in_ok-inner.ensures c.no_names-none.ensures in
+    let f = function_at c.args.p.now c.args.f.0 in
+    if_ok c.evaluate-sound.result _ _
+    (λ s evaluates.
+    subst (λ (xs : List NameId). CallTurn (Evaluates c.args.p.now c.args.e.0) c.args.p.now xs f.body.0 c.args.parts.now c.args.env (names_in c.args.frame.now) c.args.heap.now c.leave.new.heap s) c.params.ensures
+    (call_turn c.args.p.now c.args.e.0 c.args.env (names_in c.args.frame.now) c.params.result.now c.args.parts.now f.body.0 c.in_ok-inner.inner c.arguments.new.inner c.evaluate-sound.new.frame c.args.heap.now c.arguments.new.heap c.evaluate-sound.new.heap c.leave.new.heap s c.requires.body empty c.in-Ok.ensures.passed c.evaluate-sound.ensures.same
+    (subst (λ (x : ExprId). Evaluates c.args.p.now (x.0 + 1) x.0 c.args.env (names_in c.arguments.new.inner) c.arguments.new.heap c.evaluate-sound.new.heap s) c.body.ensures.value evaluates) c.leave.ensures.released))
+    c.evaluate-sound.ensures.evaluates
+
+pub call-returns-in-Ok-clause-refused : goal.call-returns-in-Ok-clause-refused
+call-returns-in-Ok-clause-refused t c =
+    let grown = passed_grown c.args.p.now c.args.e.0 c.args.env (names_in c.args.frame.now) c.params.result.now (take (length c.params.result.now) c.args.parts.now) c.in_ok-inner.inner c.arguments.new.inner c.args.heap.now c.arguments.new.heap c.in-Ok.ensures.passed in
+    let empty = empty_frame c.in_ok-inner.inner c.no_names-none.result.names c.in_ok-inner.ensures c.no_names-none.ensures in
+    err_one c.evaluate-sound.result _ _ (λ hand. left_refused c.in_ok-inner.inner c.arguments.new.inner c.evaluate-sound.new.frame c.args.heap.now c.arguments.new.heap c.evaluate-sound.new.heap 0 c.lawful.ensures grown c.evaluate-sound.ensures.same (empty_count c.in_ok-inner.inner empty) c.leave.new.heap c.leave.ensures.released hand) c.evaluate-sound.ensures.refused
+
+pub call-returns-in-Err-clause-refused : goal.call-returns-in-Err-clause-refused
+call-returns-in-Err-clause-refused t c =
+    let empty = empty_frame c.in_ok-inner.inner c.no_names-none.result.names c.in_ok-inner.ensures c.no_names-none.ensures in
+    left_refused c.in_ok-inner.inner c.arguments.new.inner c.arguments.new.inner c.args.heap.now c.arguments.new.heap c.arguments.new.heap 0 c.lawful.ensures c.in-Err.ensures.grown refl (empty_count c.in_ok-inner.inner empty) c.leave-in-Err.new.heap c.leave-in-Err.ensures.released (hand_none c.arguments.new.heap c.in-Err.ensures.grown.hand.laws)
+
+pub arguments-returns-in_err-copy-clause-grown : goal.arguments-returns-in_err-copy-clause-grown
+arguments-returns-in_err-copy-clause-grown t c = on_err _ _ (passed_grown c.args.p.now c.args.e.0 c.args.env.now (names_in c.args.frame.now) c.args.params.now (take c.loop-i.i c.args.parts.now) c.args.inner.now c.loop-i.inner c.args.heap.now c.loop-i.heap c.loop-i.invariant.so_far.so_far)
+
+pub arguments-operand-requires : goal.arguments-operand-requires
+arguments-operand-requires t c =
+    let less : c.loop-i.i < length c.args.parts.now = omega (arith, c.min-count.ensures) in
+    let below = below_at c.args.e.0 c.args.parts.now c.loop-i.i (record { 0 = 0 }) less c.requires.below in
+    (omega (arith, below, c.decreases), (omega (arith, below, c.requires.inside), (built_part_at c.args.p.now c.args.parts.now c.loop-i.i (record { 0 = 0 }) less c.requires.built, held_after c.args.heap.now c.loop-i.heap (sounds_of_values c.loop-i.invariant.so_far.so_far.values) c.args.frame.now c.loop-i.frame c.lawful.ensures c.loop-i.invariant.so_far.so_far.hand c.loop-i.invariant.same c.requires.names)))
+
+pub arguments-returns-in_err-value-clause-grown : goal.arguments-returns-in_err-value-clause-grown
+arguments-returns-in_err-value-clause-grown t c = on_err _ _ (grown_still c.args.inner.now c.loop-i.inner c.loop-i.inner c.args.heap.now c.loop-i.heap c.operand.new.heap (passed_grown c.args.p.now c.args.e.0 c.args.env.now (names_in c.args.frame.now) c.args.params.now (take c.loop-i.i c.args.parts.now) c.args.inner.now c.loop-i.inner c.args.heap.now c.loop-i.heap c.loop-i.invariant.so_far.so_far) refl c.in_err-value.ensures.refused)
+
+pub arguments-keep-requires : goal.arguments-keep-requires
+arguments-keep-requires t c =
+    let less : c.loop-i.i < length c.args.parts.now = omega (arith, c.min-count.ensures) in
+    let below = below_at c.args.e.0 c.args.parts.now c.loop-i.i (record { 0 = 0 }) less c.requires.below in
+    record { hands = all_in_hand c.loop-i.heap c.operand.new.heap (sounds_of_values (c.in_ok-value.value ∷ [])) c.loop-i.invariant.so_far.so_far.hand.laws (value_hand c.args.p.now c.order_law.ensures.ordered ((get_or c.args.parts.now c.loop-i.i (record { 0 = 0 })).0 + 1) (get_or c.args.parts.now c.loop-i.i (record { 0 = 0 })) c.in_ok-copy.field-0 (names_in c.loop-i.frame) c.loop-i.heap c.operand.new.heap c.in_ok-value.value (omega (arith, below, c.requires.inside)) (built_part_at c.args.p.now c.args.parts.now c.loop-i.i (record { 0 = 0 }) less c.requires.built) c.loop-i.invariant.so_far.so_far.hand.laws (held_after c.args.heap.now c.loop-i.heap (sounds_of_values c.loop-i.invariant.so_far.so_far.values) c.args.frame.now c.loop-i.frame c.lawful.ensures c.loop-i.invariant.so_far.so_far.hand c.loop-i.invariant.same c.requires.names) c.in_ok-value.ensures.turn) }
+
+pub arguments-returns-in_err-keep-clause-grown : goal.arguments-returns-in_err-keep-clause-grown
+arguments-returns-in_err-keep-clause-grown t c =
+    let less : c.loop-i.i < length c.args.parts.now = omega (arith, c.min-count.ensures) in
+    let below = below_at c.args.e.0 c.args.parts.now c.loop-i.i (record { 0 = 0 }) less c.requires.below in
+    on_err _ _ (keep_refused c.args.inner.now c.loop-i.inner c.loop-i.inner c.keep.new.self c.args.heap.now c.loop-i.heap c.operand.new.heap c.keep.new.heap c.in_ok-value.value (passed_grown c.args.p.now c.args.e.0 c.args.env.now (names_in c.args.frame.now) c.args.params.now (take c.loop-i.i c.args.parts.now) c.args.inner.now c.loop-i.inner c.args.heap.now c.loop-i.heap c.loop-i.invariant.so_far.so_far) (value_hand c.args.p.now c.order_law.ensures.ordered ((get_or c.args.parts.now c.loop-i.i (record { 0 = 0 })).0 + 1) (get_or c.args.parts.now c.loop-i.i (record { 0 = 0 })) c.in_ok-copy.field-0 (names_in c.loop-i.frame) c.loop-i.heap c.operand.new.heap c.in_ok-value.value (omega (arith, below, c.requires.inside)) (built_part_at c.args.p.now c.args.parts.now c.loop-i.i (record { 0 = 0 }) less c.requires.built) c.loop-i.invariant.so_far.so_far.hand.laws (held_after c.args.heap.now c.loop-i.heap (sounds_of_values c.loop-i.invariant.so_far.so_far.values) c.args.frame.now c.loop-i.frame c.lawful.ensures c.loop-i.invariant.so_far.so_far.hand c.loop-i.invariant.same c.requires.names) c.in_ok-value.ensures.turn) refl c.in_err-keep.ensures.refused c.in_err-keep.ensures.gives_up)
+
+pub arguments-loop-i-preserved : goal.arguments-loop-i-preserved
+arguments-loop-i-preserved t c =
+    let less : c.loop-i.i < length c.args.parts.now = omega (arith, c.min-count.ensures) in
+    let few : c.loop-i.i < length c.args.params.now = omega (arith, c.min-count.ensures) in
+    let below = below_at c.args.e.0 c.args.parts.now c.loop-i.i (record { 0 = 0 }) less c.requires.below in
+    record {
+      so_far = passed_step c.args.p.now c.args.e.0 c.args.env.now c.in_ok-copy.field-0 (names_in c.args.frame.now) c.args.params.now c.args.parts.now c.loop-i.i (get_or c.args.params.now c.loop-i.i (record { 0 = 0 })) (record { 0 = 0 }) (get_or c.args.parts.now c.loop-i.i (record { 0 = 0 })) (record { 0 = 0 }) c.args.inner.now c.loop-i.inner c.keep.new.self c.args.heap.now c.loop-i.heap c.operand.new.heap c.keep.new.heap c.in_ok-value.value c.in_ok-copy.ensures few less refl refl below c.loop-i.invariant.so_far
+          (value_under c.args.p.now ((get_or c.args.parts.now c.loop-i.i (record { 0 = 0 })).0 + 1) (get_or c.args.parts.now c.loop-i.i (record { 0 = 0 })) c.in_ok-copy.field-0 c.args.frame.now c.loop-i.frame c.loop-i.heap c.operand.new.heap c.in_ok-value.value c.loop-i.invariant.same c.in_ok-value.ensures.turn)
+          (value_hand c.args.p.now c.order_law.ensures.ordered ((get_or c.args.parts.now c.loop-i.i (record { 0 = 0 })).0 + 1) (get_or c.args.parts.now c.loop-i.i (record { 0 = 0 })) c.in_ok-copy.field-0 (names_in c.loop-i.frame) c.loop-i.heap c.operand.new.heap c.in_ok-value.value (omega (arith, below, c.requires.inside)) (built_part_at c.args.p.now c.args.parts.now c.loop-i.i (record { 0 = 0 }) less c.requires.built) c.loop-i.invariant.so_far.so_far.hand.laws (held_after c.args.heap.now c.loop-i.heap (sounds_of_values c.loop-i.invariant.so_far.so_far.values) c.args.frame.now c.loop-i.frame c.lawful.ensures c.loop-i.invariant.so_far.so_far.hand c.loop-i.invariant.same c.requires.names) c.in_ok-value.ensures.turn) c.in_ok-keep.ensures.bound c.in_ok-keep.ensures.held;
+      same = c.operand.ensures.same ∙ c.loop-i.invariant.same;
+    }
+
+pub bind_all-operand-requires : goal.bind_all-operand-requires
+bind_all-operand-requires t c =
+    let less : c.loop-name.name-index < length c.args.binds.now = omega arith in
+    let below = subst (λ (bs : List (NameId × ExprId)). BindsBelow c.args.e.0 bs) (drop_more c.args.binds.now c.loop-name.name-index (record { 0 = 0 }, record { 0 = 0 }) less) c.loop-name.invariant.below in
+    let builds = subst (λ (bs : List (NameId × ExprId)). AreBindsBuilt c.args.p.now bs) (drop_more c.args.binds.now c.loop-name.name-index (record { 0 = 0 }, record { 0 = 0 }) less) c.loop-name.invariant.built in
+    (omega (arith, below.0, c.decreases), (omega (arith, below.0, c.requires.inside), (builds.0, held_grown c.args.frame.now c.loop-name.frame c.args.heap.now c.loop-name.heap c.lawful.ensures (bound_grown c.args.p.now c.args.e.0 c.args.env.now (take c.loop-name.name-index c.args.binds.now) c.args.frame.now c.loop-name.frame c.args.heap.now c.loop-name.heap c.loop-name.invariant.so_far) c.requires.names)))
+
+pub bind_all-returns-in_err-value-clause-grown : goal.bind_all-returns-in_err-value-clause-grown
+bind_all-returns-in_err-value-clause-grown t c = on_err _ _ (grown_still c.args.frame.now c.loop-name.frame c.operand.new.frame c.args.heap.now c.loop-name.heap c.operand.new.heap (bound_grown c.args.p.now c.args.e.0 c.args.env.now (take c.loop-name.name-index c.args.binds.now) c.args.frame.now c.loop-name.frame c.args.heap.now c.loop-name.heap c.loop-name.invariant.so_far) c.operand.ensures.same c.in_err-value.ensures.refused)
+
+pub bind_all-keep-requires : goal.bind_all-keep-requires
+bind_all-keep-requires t c =
+    let less : c.loop-name.name-index < length c.args.binds.now = omega arith in
+    let below = subst (λ (bs : List (NameId × ExprId)). BindsBelow c.args.e.0 bs) (drop_more c.args.binds.now c.loop-name.name-index (record { 0 = 0 }, record { 0 = 0 }) less) c.loop-name.invariant.below in
+    let builds = subst (λ (bs : List (NameId × ExprId)). AreBindsBuilt c.args.p.now bs) (drop_more c.args.binds.now c.loop-name.name-index (record { 0 = 0 }, record { 0 = 0 }) less) c.loop-name.invariant.built in
+    record { hands = all_in_hand c.loop-name.heap c.operand.new.heap (sounds_of_values (c.in_ok-value.value ∷ [])) c.loop-name.invariant.so_far.hand.laws (value_hand c.args.p.now c.order_law.ensures.ordered ((get_or c.args.binds.now c.loop-name.name-index (record { 0 = 0 }, record { 0 = 0 })).1.0 + 1) (get_or c.args.binds.now c.loop-name.name-index (record { 0 = 0 }, record { 0 = 0 })).1 c.in_ok-copy.field-0 (names_in c.loop-name.frame) c.loop-name.heap c.operand.new.heap c.in_ok-value.value (omega (arith, below.0, c.requires.inside)) builds.0 c.loop-name.invariant.so_far.hand.laws (held_grown c.args.frame.now c.loop-name.frame c.args.heap.now c.loop-name.heap c.lawful.ensures (bound_grown c.args.p.now c.args.e.0 c.args.env.now (take c.loop-name.name-index c.args.binds.now) c.args.frame.now c.loop-name.frame c.args.heap.now c.loop-name.heap c.loop-name.invariant.so_far) c.requires.names) c.in_ok-value.ensures.turn) }
+
+pub bind_all-returns-in_err-keep-clause-grown : goal.bind_all-returns-in_err-keep-clause-grown
+bind_all-returns-in_err-keep-clause-grown t c =
+    let less : c.loop-name.name-index < length c.args.binds.now = omega arith in
+    let below = subst (λ (bs : List (NameId × ExprId)). BindsBelow c.args.e.0 bs) (drop_more c.args.binds.now c.loop-name.name-index (record { 0 = 0 }, record { 0 = 0 }) less) c.loop-name.invariant.below in
+    let builds = subst (λ (bs : List (NameId × ExprId)). AreBindsBuilt c.args.p.now bs) (drop_more c.args.binds.now c.loop-name.name-index (record { 0 = 0 }, record { 0 = 0 }) less) c.loop-name.invariant.built in
+    on_err _ _ (keep_refused c.args.frame.now c.loop-name.frame c.operand.new.frame c.keep.new.self c.args.heap.now c.loop-name.heap c.operand.new.heap c.keep.new.heap c.in_ok-value.value (bound_grown c.args.p.now c.args.e.0 c.args.env.now (take c.loop-name.name-index c.args.binds.now) c.args.frame.now c.loop-name.frame c.args.heap.now c.loop-name.heap c.loop-name.invariant.so_far) (value_hand c.args.p.now c.order_law.ensures.ordered ((get_or c.args.binds.now c.loop-name.name-index (record { 0 = 0 }, record { 0 = 0 })).1.0 + 1) (get_or c.args.binds.now c.loop-name.name-index (record { 0 = 0 }, record { 0 = 0 })).1 c.in_ok-copy.field-0 (names_in c.loop-name.frame) c.loop-name.heap c.operand.new.heap c.in_ok-value.value (omega (arith, below.0, c.requires.inside)) builds.0 c.loop-name.invariant.so_far.hand.laws (held_grown c.args.frame.now c.loop-name.frame c.args.heap.now c.loop-name.heap c.lawful.ensures (bound_grown c.args.p.now c.args.e.0 c.args.env.now (take c.loop-name.name-index c.args.binds.now) c.args.frame.now c.loop-name.frame c.args.heap.now c.loop-name.heap c.loop-name.invariant.so_far) c.requires.names) c.in_ok-value.ensures.turn) c.operand.ensures.same c.in_err-keep.ensures.refused c.in_err-keep.ensures.gives_up)
+
+pub bind_all-loop-name-preserved : goal.bind_all-loop-name-preserved
+bind_all-loop-name-preserved t c =
+    let less : c.loop-name.name-index < length c.args.binds.now = omega arith in
+    let below = subst (λ (bs : List (NameId × ExprId)). BindsBelow c.args.e.0 bs) (drop_more c.args.binds.now c.loop-name.name-index (record { 0 = 0 }, record { 0 = 0 }) less) c.loop-name.invariant.below in
+    let builds = subst (λ (bs : List (NameId × ExprId)). AreBindsBuilt c.args.p.now bs) (drop_more c.args.binds.now c.loop-name.name-index (record { 0 = 0 }, record { 0 = 0 }) less) c.loop-name.invariant.built in
+    record {
+      so_far = bound_step c.args.p.now c.args.e.0 c.args.env.now c.in_ok-copy.field-0 c.args.binds.now c.loop-name.name-index (get_or c.args.binds.now c.loop-name.name-index (record { 0 = 0 }, record { 0 = 0 })) (record { 0 = 0 }, record { 0 = 0 }) c.args.frame.now c.loop-name.frame c.operand.new.frame c.keep.new.self c.args.heap.now c.loop-name.heap c.operand.new.heap c.keep.new.heap c.in_ok-value.value c.in_ok-copy.ensures less refl below.0 c.loop-name.invariant.so_far c.in_ok-value.ensures.turn
+          (value_hand c.args.p.now c.order_law.ensures.ordered ((get_or c.args.binds.now c.loop-name.name-index (record { 0 = 0 }, record { 0 = 0 })).1.0 + 1) (get_or c.args.binds.now c.loop-name.name-index (record { 0 = 0 }, record { 0 = 0 })).1 c.in_ok-copy.field-0 (names_in c.loop-name.frame) c.loop-name.heap c.operand.new.heap c.in_ok-value.value (omega (arith, below.0, c.requires.inside)) builds.0 c.loop-name.invariant.so_far.hand.laws (held_grown c.args.frame.now c.loop-name.frame c.args.heap.now c.loop-name.heap c.lawful.ensures (bound_grown c.args.p.now c.args.e.0 c.args.env.now (take c.loop-name.name-index c.args.binds.now) c.args.frame.now c.loop-name.frame c.args.heap.now c.loop-name.heap c.loop-name.invariant.so_far) c.requires.names) c.in_ok-value.ensures.turn) c.operand.ensures.same c.in_ok-keep.ensures.bound c.in_ok-keep.ensures.held;
+      below = below.1;
+      built = builds.1;
+    }
