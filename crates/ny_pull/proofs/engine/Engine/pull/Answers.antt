@@ -16,13 +16,6 @@ pub returns-in_default-take-clause-means : goal.returns-in_default-take-clause-m
 returns-in_default-take-clause-means c =
     means_channels _ _ _ _ _ _ _ _ refl (still_none c.self.inside.program c.self.inside.rate c.self.inside.heap c.self.inside.channel c.take.new.self c.self.inside.frames c.self.inside.pulls c.self.inside.spent (sym c.in_default-take.ensures.value ∙ sym c.in_default-take.ensures.after) c.self.invariant)
 
-pub drive-requires-clause-ranked : goal.drive-requires-clause-ranked
-drive-requires-clause-ranked c =
-    let some = sym c.in-Some-take.ensures.value in
-    let way = under_way c.self.inside.heap c.self.inside.channel c.in-Some-take.channel _ _ _ some c.self.invariant.still in
-    let list = (open_of _ _ _ _ _ _ way.playing (sym c.in-Some-unit_of.ensures.unit)).list in
-    (way.playing.pulled _ list).ranked
-
 pub invariant_of-self-then-is_err : goal.invariant_of-self-then-is_err
 invariant_of-self-then-is_err c =
     let d = c.drive.ensures in
@@ -154,7 +147,7 @@ returns-clause-gives c =
     let r = c.read-count.ensures in
     let done : is_err c.drive.result ≡ false = sym c.is_err.ensures.value ∙ c.if-is_err.false in
     let walk = at_done c.drive.result _ done d.order in
-    inr (gives _ _ _ _ _ _ _ c.self.view_is c.args.c c.requires.channel c.in-Some-take.channel c.read-count.new.s _ _ c.read-count.result walk.0 c.drive.new.heap c.read-count.new.self c.left-self-inside.new.heap c.left-self-inside.result c.self.inside.spent (sym c.in-Some-take.ensures.value) (sym c.in-Some-unit_of.ensures.unit) walk.1 r.passes r.trimmed c.left-self-inside.ensures.left)
+    inr (gives _ _ _ _ _ _ _ c.self.view_is c.args.c c.requires.channel c.in-Some-take.channel c.read-count.new.s _ _ c.read-count.result walk.1 c.drive.new.heap c.read-count.new.self c.left-self-inside.new.heap c.left-self-inside.result c.self.inside.spent (sym c.in-Some-take.ensures.value) (sym c.in-Some-unit_of.ensures.unit) walk.2 r.passes r.trimmed c.left-self-inside.ensures.left)
 
 pub returns-clause-same : goal.returns-clause-same
 returns-clause-same c =
