@@ -784,17 +784,24 @@ NOT_BUILT = ("cue", "sim", "simrep", "seq", "seqrep", "vector")
 
 
 def is_built(tree, acceptance):
-    """Whether `nyq` plays the text today: each node that is reached from what is played, global values left out, is no
-    block, no call of a function, no local name and none of `NOT_BUILT`."""
+    """Whether `nyq` plays the text today: each node that is reached from what is played, global values left out and the bodies
+    of called functions not, is none of `NOT_BUILT`."""
+    known = {}
+
+    def function_built(number):
+        if number not in known:
+            known[number] = built(tree.decls[number].body)
+        return known[number]
+
     def built(e):
-        if e.form == "number":
+        if e.form in ("number", "name"):
             return True
-        if e.form == "name":
-            return e.name in acceptance.variables
         if e.form == "block":
+            return all(built(value) for _, _, value in e.binds) and built(e.parts[0])
+        if e.form == "call" and e.name in NOT_BUILT:
             return False
-        if e.form == "call" and (e.name not in BUILT_INS or e.name in NOT_BUILT):
-            return False
+        if e.form == "call" and e.name not in BUILT_INS:
+            return all(built(part) for part in e.parts) and function_built(acceptance.functions[e.name])
         skipped = 1 if e.form == "call" and (e.name == "warp" or e.name in RATE_CALLS) else 0
         return all(built(part) for part in e.parts[skipped:])
     return built(tree.play)
