@@ -7,3 +7,13 @@ pub mod KeptNames
 pub mod OfText
 pub mod ScalarKinds
 pub mod PlayedKinds
+pub mod OperatorKinds
+pub mod Layers
+pub mod KindNames
+pub mod Rows
+pub mod PartKinds
+pub mod TextKinds
+pub mod ReadWhole
+pub mod Scopes
+pub mod AcceptedKinds
+pub mod ReachedKinds

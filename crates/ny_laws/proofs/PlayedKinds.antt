@@ -62,13 +62,13 @@ all_suit (v ∷ values) (b ∷ bound) h = (h.0, named_suits v.1 b.1 h.1, all_sui
 all_suit [] (b ∷ bound) h = absurd h
 all_suit (v ∷ values) [] h = absurd h
 
-push_fits : (values : Kinds) (bound : Bound) (x : NameId) (k : Kind) (v : Value sounds.Sound) → Fits values bound → IsValueOf k v → Fits (values ++ (x, k) ∷ []) (bound ++ (x, v) ∷ [])
+pub push_fits : (values : Kinds) (bound : Bound) (x : NameId) (k : Kind) (v : Value sounds.Sound) → Fits values bound → IsValueOf k v → Fits (values ++ (x, k) ∷ []) (bound ++ (x, v) ∷ [])
 push_fits [] [] x k v h one = (refl, one, tt)
 push_fits (w ∷ values) (b ∷ bound) x k v h one = (h.0, h.1, push_fits values bound x k v h.2 one)
 push_fits [] (b ∷ bound) x k v h one = absurd h
 push_fits (w ∷ values) [] x k v h one = absurd h
 
-value_fits : (k : Kind) (s : Scalar) (m : sounds.Sound) → is_value k ≡ true → Suits k s → IsValueOf k (value_by s m)
+pub value_fits : (k : Kind) (s : Scalar) (m : sounds.Sound) → is_value k ≡ true → Suits k s → IsValueOf k (value_by s m)
 value_fits Number (scalar.Number v) m is h = tt
 value_fits Number (scalar.Test t) m is h = absurd h
 value_fits Number scalar.Sound m is h = absurd h
@@ -78,12 +78,12 @@ value_fits Sound (scalar.Test t) m is h = absurd h
 value_fits Test s m is h = cc
 value_fits (Channels n) s m is h = cc
 
-abbrev AreFitted : List Kind → List (Value sounds.Sound) → Type 0
+abbrev pub AreFitted : List Kind → List (Value sounds.Sound) → Type 0
 AreFitted [] [] = Unit {0}
 AreFitted (k ∷ ks) (v ∷ vs) = IsValueOf k v × AreFitted ks vs
 AreFitted _ _ = ⊥
 
-zip_fits : (params : List NameId) (ks : List Kind) (vs : List (Value sounds.Sound)) → AreFitted ks vs → Fits (zip params ks) (zip params vs)
+pub zip_fits : (params : List NameId) (ks : List Kind) (vs : List (Value sounds.Sound)) → AreFitted ks vs → Fits (zip params ks) (zip params vs)
 zip_fits [] ks vs h = tt
 zip_fits (x ∷ params) [] [] h = tt
 zip_fits (x ∷ params) (k ∷ ks) (v ∷ vs) h = (refl, h.0, zip_fits params ks vs h.1)
@@ -93,7 +93,7 @@ zip_fits (x ∷ params) (k ∷ ks) [] h = absurd h
 -- ---- by the rules
 
 module _ (code : Code) (ordered : IsOrdered code) where
-  fit_each : (values : Kinds) (es : List ExprId) (ks : List Kind) → AreOf code values es ks → AreValues ks → (env : Env) (bound : Bound) → Fits values bound
+  pub fit_each : (values : Kinds) (es : List ExprId) (ks : List Kind) → AreOf code values es ks → AreValues ks → (env : Env) (bound : Bound) → Fits values bound
       → AreFitted ks (map (value_of code (meaning code) env bound) es)
   fit_each values es ks (kinds.none_of _) are env bound h = tt
   fit_each values es ks (kinds.one_of _ e more k js one rest) are env bound h = (
@@ -101,7 +101,7 @@ module _ (code : Code) (ordered : IsOrdered code) where
     fit_each values more js rest are.1 env bound h,
   )
 
-  fit_binds : (values : Kinds) (bs : List (NameId × ExprId)) (inner : Kinds) → BindsAreOf code values bs inner → (env : Env) (bound : Bound) → Fits values bound
+  pub fit_binds : (values : Kinds) (bs : List (NameId × ExprId)) (inner : Kinds) → BindsAreOf code values bs inner → (env : Env) (bound : Bound) → Fits values bound
       → Fits inner (bound_after code (meaning code) env bs bound)
   fit_binds values bs inner (kinds.no_bind _) env bound h = h
   fit_binds values bs inner (kinds.one_bind _ x e more k _ one value rest) env bound h =
@@ -174,7 +174,7 @@ module _ (code : Code) (ordered : IsOrdered code) where
   plays values e k (kinds.changed _ _ t n a is one two) env bound h = play_at e (node.Change (change.By t n) a) env bound is
   plays values e k (kinds.warped _ _ ps a is one) env bound h = play_at e (node.Change (change.Warp ps) a) env bound is
   plays values e k (kinds.rated _ _ w r a is one) env bound h = play_at e (node.Change (change.Rate w r) a) env bound is
-  plays values e k (kinds.vector _ _ es is each) env bound h =
+  plays values e k (kinds.vector _ _ es is some few each) env bound h =
       ap (λ (ss : List sounds.Sound). length ss) (play_at e (node.Vector es) env bound is) ∙ as_many (operand code env bound) es
 
   made : (e : ℕ) (env : Env) (bound : Bound) (k : Kind) → Suits k (scalar_of code e (scalars_of bound)) → PlaysAs e env bound k → IsMade code e env bound k

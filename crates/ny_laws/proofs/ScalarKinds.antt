@@ -223,7 +223,7 @@ module _ (code : Code) (ordered : IsOrdered code) where
     suits values e k (kinds.changed _ _ t n a is one two) names h = here e (node.Change (change.By t n) a) names Sound is tt
     suits values e k (kinds.warped _ _ ps a is one) names h = here e (node.Change (change.Warp ps) a) names Sound is tt
     suits values e k (kinds.rated _ _ w r a is one) names h = here e (node.Change (change.Rate w r) a) names Sound is tt
-    suits values e k (kinds.vector _ _ es is each) names h = here e (node.Vector es) names (Channels (length es)) is tt
+    suits values e k (kinds.vector _ _ es is some few each) names h = here e (node.Vector es) names (Channels (length es)) is tt
 
     pub suit_each : (values : Kinds) (es : List ExprId) (ks : List Kind) → AreOf code values es ks → AreValues ks → (names : Scalars) → AllSuit values names
         → AreSuited ks (map (argument (scalar_of code) names) es)

@@ -1,5 +1,5 @@
 -- What an expression of a program is: a rule for each kind of node.
-use Rattle.std.specs.Prelude.{◌≡◌, ◌⊎◌, ℕ, Bool, false, true, List, [], ◌∷◌, ◌++◌, zip, length, Some, ℤ}
+use Rattle.std.specs.Prelude.{◌≡◌, ◌≤◌, ◌⊎◌, ℕ, Bool, false, true, List, [], ◌∷◌, ◌++◌, zip, length, Some, ℤ}
 use Rattle.ny_num.specs.declared.rate.Rate.{Rate}
 use Rattle.ny_kernels.specs.declared.operation.Op.{Op}
 use Rattle.ny_warp.specs.declared.map.Point.{Point}
@@ -75,7 +75,8 @@ mutual
         → IsOf code values a.0 Sound → IsOf code values e Sound
     warped : (values : Kinds) (e : ℕ) (ps : List Point) (a : ExprId) → node_at code e ≡ node.Change (change.Warp ps) a → IsOf code values a.0 Sound → IsOf code values e Sound
     rated : (values : Kinds) (e : ℕ) (w : Rated) (r : Rate) (a : ExprId) → node_at code e ≡ node.Change (change.Rate w r) a → IsOf code values a.0 Sound → IsOf code values e Sound
-    vector : (values : Kinds) (e : ℕ) (es : List ExprId) → node_at code e ≡ node.Vector es → AllOf code Sound values es → IsOf code values e (Channels (length es))
+    vector : (values : Kinds) (e : ℕ) (es : List ExprId) → node_at code e ≡ node.Vector es → 1 ≤ length es → length es ≤ 8 → AllOf code Sound values es
+        → IsOf code values e (Channels (length es))
 
   -- expressions in order
   pub data AreOf (code : Code) : Kinds → List ExprId → List Kind → Type 0 where

@@ -1,2 +1,4 @@
 pub mod Standing
 pub mod Kinds
+pub mod Whole
+pub mod Reached

@@ -3,10 +3,12 @@
 //! The definitions are told in `docs/DEFINITIONS.md`.
 #![tactic(auto)]
 
+mod accepted;
 mod kept;
 mod kinds;
 mod table;
 
+pub use accepted::meaning_law;
 pub use kept::kept_name_laws;
 pub use kinds::kinds_law;
 pub use table::table_law;
