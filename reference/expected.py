@@ -81,8 +81,17 @@ def on_failing_hosts(path, later, out):
                 printed = "printed " + shown(host.printed) if host.printed else "nothing printed"
                 what = "%s %d" % fault if fault else "none"
                 out(("step %d %s: status %d, %s, %s\n" % (step, what, status, file_shown(host), printed)).encode())
+        out(b"never failing: status %d\n" % nyq.run(words, Unfailing({"in.sal": text}), later))
         out(b"short calls\n")
         on_file(words, text, later, out)
+
+
+class Unfailing(nyq.Host):
+    """A host of which no call fails: a name that is not there is an empty file."""
+
+    def open(self, name):
+        self.files.setdefault(name, b"")
+        super().open(name)
 
 
 def copies_are_the_examples():

@@ -4,8 +4,8 @@ use crate::case::{Case, INPUT};
 use crate::files::print_run;
 use crate::short_calls::ShortCalls;
 use crate::shown::{file_shown, printed_shown};
-use ny_io::{Fails, MemHost, RealHost};
-use ny_top::run;
+use ny_io::{Fails, MemHost, NeverFail, RealHost};
+use ny_top::{run, run_unfailing};
 use std::alloc::{AllocError, Global};
 use std::rt::Runtime;
 use std::{fmt, io};
@@ -42,13 +42,14 @@ struct Failing {
     number: u64,
 }
 
-/// Runs a case over hosts in memory, which move one byte with each call, a few, or many, and then over
-/// the real files by calls that move a few bytes.
+/// Runs a case over hosts in memory, which move one byte with each call, a few, or many, over one of
+/// which no call fails, and then over the real files by calls that move a few bytes.
 pub fn run_on_hosts<R: Runtime + AllocGlobal>(rt: &R, case: &Case<'_>) -> io::Result<()> {
     rt.write_all(&case.heading(rt.alloc())?)?;
     run_by_steps(rt, case, 1)?;
     run_by_steps(rt, case, 7)?;
     run_by_steps(rt, case, 1_000_000)?;
+    rt.println(unfailing_shown(rt.alloc(), case)?)?;
     rt.println("short calls")?;
     print_run(rt, case, &mut RealHost::new(ShortCalls(rt.clone()?)))
 }
@@ -93,12 +94,30 @@ fn run_shown(
     format!(in alloc; "step {step} {failing}: status {code}, {file}, {printed}")
 }
 
+/// How a case ends over a host of which no call fails.
+fn unfailing_shown(alloc: Global, case: &Case<'_>) -> Result<String, AllocError> {
+    let mut host = NeverFail::of(files_of(alloc, case)?, 1_000_000);
+    let mut left = None;
+    let code = run_unfailing(alloc, case.words(), &mut host, &mut left).code();
+    format!(in alloc; "never failing: status {code}")
+}
+
 /// The call that is to fail, if one is.
 fn failing_shown(alloc: Global, failing: Option<Failing>) -> Result<String, AllocError> {
     match failing {
         Some(Failing { call, number }) => format!(in alloc; "{call} {number}"),
         None => String::from_str(alloc, "none"),
     }
+}
+
+/// The files of a host in memory: the text of a case.
+fn files_of(alloc: Global, case: &Case<'_>) -> Result<Vec<(String, Vec<u8>)>, AllocError> {
+    let mut files = Vec::new(alloc);
+    if let Some(text) = case.text() {
+        let name = String::from_str(alloc, INPUT)?;
+        files.push((name, Vec::from_slice(alloc, text)?))?;
+    }
+    Ok(files)
 }
 
 /// A host in memory that has the text of a case.
@@ -110,11 +129,7 @@ fn host_of(
 ) -> Result<MemHost, AllocError>
     requires { 1 ≤ step }
 {
-    let mut files = Vec::new(alloc);
-    if let Some(text) = case.text() {
-        let name = String::from_str(alloc, INPUT)?;
-        files.push((name, Vec::from_slice(alloc, text)?))?;
-    }
+    let files = files_of(alloc, case)?;
     MemHost::of(alloc, files, step, fails_of(alloc, failing)?, ROOM)
 }
 

@@ -1,5 +1,5 @@
 -- What follows from a run's end and the causes of its faults.
-use Rattle.std.proofs.Common.{◌≡◌, ℕ, ◌⊎◌, List, refl, sym, subst, ap, ◌∙◌, None, Some, IfSome, IsTrue, inl, inr}
+use Rattle.std.proofs.Common.{◌≡◌, ℕ, ◌⊎◌, List, arith, refl, sym, subst, ap, ◌∙◌, None, Some, IfSome, IsTrue, inl, inr}
 use Rattle.std.specs.Prelude.{IsSomeAnd}
 use Rattle.std.specs.declared.option.Option.{Option}
 use Rattle.ny_io.specs.Faults.{Rose}
@@ -13,22 +13,40 @@ use Rattle.ny_top.specs.Words.{Render, Task, Command, render, check}
 use Rattle.ny_top.specs.Outcome.{Outcome, HasProgramOutcome, HasReadOutcome, HasTextOutcome, HasCommandOutcome, IsRefused, IsUnrefused}
 use Rattle.ny_top.specs.Ends.{EndsAs, NoneRose, CreateCause, NoCreateRose, OpenCause, ReadCause, TaskPoolFull, is_whole}
 
+no_rise : (before now : ℕ) → now ≡ 0 → Rose before now → ⊥
+no_rise before now zero rose = omega (arith, zero, rose)
+
 no_create : (task : Task) (old new : HostState) → NoCreateRose task old new → CreateCause task old new → ⊥
 no_create check old new quiet cause = cause
 no_create (render r) old new quiet cause = quiet cause.0
 
-no_open : (asked : Option Command) (old new : HostState) → NoneRose asked old new → IsSomeAnd asked (λ command. OpenCause command old new) → ⊥
+pub no_open : (asked : Option Command) (old new : HostState) → NoneRose asked old new → IsSomeAnd asked (λ command. OpenCause command old new) → ⊥
 no_open None old new quiet cause = cause
 no_open (Some command) old new quiet (inl cause) = quiet.0 cause.0
-no_open (Some command) old new quiet (inr cause) = no_create command.task old new quiet.2 cause
+no_open (Some command) old new quiet (inr cause) = no_create command.task old new quiet.2 cause.0
 
-no_read : (asked : Option Command) (old new : HostState) → NoneRose asked old new → IsSomeAnd asked (λ command. ReadCause command old new) → ⊥
+pub no_read : (asked : Option Command) (old new : HostState) → NoneRose asked old new → IsSomeAnd asked (λ command. ReadCause command old new) → ⊥
 no_read None old new quiet cause = cause
 no_read (Some command) old new quiet cause = quiet.1 cause.0
 
-no_write : (asked : Option Command) (old new : HostState) → NoneRose asked old new → Rose old.writes new.writes → ⊥
+pub no_write : (asked : Option Command) (old new : HostState) → NoneRose asked old new → Rose old.writes new.writes → ⊥
 no_write None old new quiet rose = quiet rose
 no_write (Some command) old new quiet rose = quiet.3 rose
+
+-- over a host all of whose counts stay at 0 none rises
+pub still : (asked : Option Command) (old new : HostState) → ((name : List ℕ) → new.opens name ≡ 0) → ((name : List ℕ) → new.reads name ≡ 0)
+    → ((name : List ℕ) → new.creates name ≡ 0) → new.writes ≡ 0 → NoneRose asked old new
+still None old new opens reads creates writes = no_rise old.writes new.writes writes
+still (Some command) old new opens reads creates writes = (
+  no_rise (old.opens command.from) (new.opens command.from) (opens command.from),
+  no_rise (old.reads command.from) (new.reads command.from) (reads command.from),
+  of_task command.task,
+  no_rise old.writes new.writes writes,
+)
+  where
+    of_task : (task : Task) → NoCreateRose task old new
+    of_task check = tt
+    of_task (render r) = no_rise (old.creates r.to) (new.creates r.to) (creates r.to)
 
 -- the causes of the answers of a run that leaves this engine
 pub record Causes (asked : Option Command) (left : Option EngineState) (status : Status) (old new : HostState) : Type 0 where

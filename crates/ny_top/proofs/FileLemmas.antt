@@ -2,7 +2,7 @@
 use Rattle.std.proofs.Common.{◌≡◌, ℕ, ◌*◌, ◌<◌, ◌≤◌, ◌⊎◌, List, [], ◌∷◌, ◌++◌, take, map, length, slice_index_or, Option, Some, None, IsTrue, true, false, refl, sym, ap, subst, ◌∙◌, arith, slice_index, ℤ, inl, inr}
 use Rattle.std.specs.Int.{div_ceil}
 use Rattle.std.specs.Io.KnownBytes.{append_known}
-use Rattle.ny_io.specs.Host.{HostState, written, added}
+use Rattle.ny_io.specs.Host.{HostState, SameCounts, written, added}
 use Rattle.ny_num.specs.declared.rate.Rate.{Rate}
 use Rattle.ny_num.specs.Sound as sounds
 use Rattle.ny_num.specs.Sound.{silence}
@@ -20,15 +20,15 @@ use Rattle.ny_top.specs.Channel.{playable, file_of, first_frames}
 use Rattle.ny_top.specs.Playing.{IsAsked, HasPlayed, IsFullAfter, IsPoolFull, IsNew, pulls_of}
 use Rattle.ny_top.specs.Rounds.{IsUnderway, Wrote, WrotePart, IsPulledOut, IsSpentAfter, EndsRounds, EndsFile}
 use Rattle.ny_top.specs.Outcome.{Outcome, played, full, checked, refused, form_line, HasPlayOutcome, HasProgramOutcome, HasTreeOutcome}
-use Rattle.ny_top.specs.Ends.{EndsAs, ToldAs, FaultTold, MadePart, MadeTree, made, is_whole}
+use Rattle.ny_top.specs.Ends.{EndsAs, ToldAs, FaultTold, MadePart, MadeTree, made, is_whole, is_unfailed, is_early}
 use Rattle.ny_top.specs.declared.status.Status.{Status}
 use Rattle.ny_top.specs.declared.status.Status.TheVariants as status
 use Rattle.ny_top.specs.declared.rounds.RoundFault.{RoundFault}
-use Rattle.ny_top.specs.declared.rounds.RoundFault.TheVariants.{Write, PoolFull, OutOfMemory}
+use Rattle.ny_top.specs.declared.rounds.RoundFault.TheVariants.{Write, PoolFull}
 use Rattle.ny_top.proofs.Parts.{written-new}
 use Rattle.ny_top.proofs.MonoLemmas.{IsMono, file_parts, first_parts, mono_of, is_playable}
 use Rattle.ny_top.proofs.RoundLemmas.{wrote_both, part_first, part_then}
-use Rattle.ny_top.proofs.Stages.{rose_from}
+use Rattle.ny_top.proofs.Stages.{rose_from, quiet_then}
 
 -- ---- the bytes
 
@@ -53,17 +53,17 @@ module _ (rate : Rate) (code : Code) (xs : List ℤ) (mono : IsMono code rate xs
   pub file_part : Wrote head old mid → WrotePart (frame_of xs) mid new → WrotePart (file_of rate code) old new
   file_part first part = subst (λ bytes. WrotePart bytes old new) whole_is (part_then head (frame_of xs) old mid new first part)
 
-  pub ends_file : (start e : EngineState) (fault : RoundFault) → start.code ≡ code → start.rate ≡ rate → channel_at start 0 ≡ xs → old.writes ≤ mid.writes → Wrote head old mid
+  pub ends_file : (start e : EngineState) (fault : RoundFault) → start.code ≡ code → start.rate ≡ rate → channel_at start 0 ≡ xs → old.writes ≤ mid.writes → SameCounts old mid → Wrote head old mid
       → EndsRounds start e mid new fault → EndsFile start e old new fault
-  ends_file start e Write same_code same_rate same later first rose = rose_from old.writes mid.writes new.writes later rose
-  ends_file start e (PoolFull n) same_code same_rate same later first (spent, wrote) =
+  ends_file start e Write same_code same_rate same later quiet first rose = rose_from old.writes mid.writes new.writes later rose
+  ends_file start e (PoolFull n) same_code same_rate same later quiet first (spent, wrote, still) =
       let m = n * start.heap.block in
       let here : Wrote (frame_of (take m xs)) mid new = subst (λ ys. Wrote (frame_of (take m ys)) mid new) same wrote in (
         spent,
         subst (λ r. Wrote (first_frames r start.code m) old new) (sym same_rate)
             (subst (λ c. Wrote (first_frames rate c m) old new) (sym same_code) (wrote_first m first here)),
+        quiet_then old mid new quiet still,
       )
-  ends_file start e OutOfMemory same_code same_rate same later first is = tt
 
 -- ---- the engine
 
@@ -186,11 +186,24 @@ not_whole s t whole is off =
     let e : false ≡ true = sym off ∙ sym (ap is_whole is) ∙ whole in
     cc
 
+-- a fault whose line can't be printed is still a fault
+pub still_a_fault : (s t : Status) → (s ≡ t) ⊎ (s ≡ status.WriteFault) → is_unfailed t ≡ false → is_unfailed s ≡ false
+still_a_fault s t (inl is) fault = ap is_unfailed is ∙ fault
+still_a_fault s t (inr is) fault = ap is_unfailed is
+
+-- a run that ends after its output was created
+pub a_late : (s t u : Status) → IsTrue (is_early s) → (s ≡ t) ⊎ (s ≡ u) → is_early t ≡ false → is_early u ≡ false → ⊥
+a_late s t u early (inl is) off other =
+    let e : false ≡ true = sym off ∙ sym (ap is_early is) ∙ early in
+    cc
+a_late s t u early (inr is) off other =
+    let e : false ≡ true = sym other ∙ sym (ap is_early is) ∙ early in
+    cc
+
 -- of the ends of a full pool only one is whole
-pub only_full : (s : Status) → IsTrue (is_whole s) → (s ≡ status.PoolFull) ⊎ (s ≡ status.WriteFault) ⊎ (s ≡ status.OutOfMemory) → s ≡ status.PoolFull
+pub only_full : (s : Status) → IsTrue (is_whole s) → (s ≡ status.PoolFull) ⊎ (s ≡ status.WriteFault) → s ≡ status.PoolFull
 only_full s whole (inl is) = is
-only_full s whole (inr (inl is)) = absurd (not_whole s status.WriteFault whole is refl)
-only_full s whole (inr (inr is)) = absurd (not_whole s status.OutOfMemory whole is refl)
+only_full s whole (inr is) = absurd (not_whole s status.WriteFault whole is refl)
 
 -- of the ends of a text that is printed only one is whole
 pub only_ok : (s : Status) → IsTrue (is_whole s) → (s ≡ status.Ok) ⊎ (s ≡ status.WriteFault) ⊎ (s ≡ status.OutOfMemory) → s ≡ status.Ok

@@ -5,7 +5,7 @@ use Rattle.std.proofs.lemmas.List.{take-append-drop, take-append-le, take_all}
 use Rattle.std.proofs.Math.Seq.{take-add, take-append-add}
 use Rattle.std.proofs.lemmas.Bool.{lt-ltb}
 use Rattle.std.proofs.lemmas.Grind.{div_ceil_times}
-use Rattle.ny_io.specs.Host.{HostState, NoneFell, written}
+use Rattle.ny_io.specs.Host.{HostState, NoneFell, SameCounts, written}
 use Rattle.ny_io.proofs.Written.{written-then, written-nothing}
 use Rattle.ny_heap.specs.Heap.{live_of}
 use Rattle.ny_heap.specs.Reach.{HeapLaws}
@@ -17,9 +17,9 @@ use Rattle.ny_pull.specs.Engine.{EngineState, channel_at, passed_of, next_block,
 use Rattle.ny_wav.specs.WavFile.{frame_of}
 use Rattle.ny_wav.proofs.Frames.{frame_of-nil, frame_of-append}
 use Rattle.ny_top.specs.Rounds.{IsUnderway, Wrote, WrotePart, IsPulledOut, IsSpentAfter, IsRoundFault, EndsRounds}
-use Rattle.ny_top.proofs.Stages.{rose_from}
+use Rattle.ny_top.proofs.Stages.{rose_from, quiet_none, quiet_then}
 use Rattle.ny_top.specs.declared.rounds.RoundFault.{RoundFault}
-use Rattle.ny_top.specs.declared.rounds.RoundFault.TheVariants.{Write, PoolFull, OutOfMemory}
+use Rattle.ny_top.specs.declared.rounds.RoundFault.TheVariants.{Write, PoolFull}
 
 -- ---- bytes
 
@@ -169,10 +169,10 @@ round_part start mid old now later same before part =
     more_part (channel_at start 0) (passed_of mid 0) mid.heap.block old now later before
     (subst (λ xs. WrotePart (frame_of (take mid.heap.block (drop (passed_of mid 0) xs))) now later) (same_channel start mid same) part)
 
-pub ends_rounds : (start mid e : EngineState) (old now later : HostState) (fault : RoundFault) → SamePiece start mid → NoneFell old now → SoFar start mid old now
+pub ends_rounds : (start mid e : EngineState) (old now later : HostState) (fault : RoundFault) → SamePiece start mid → NoneFell old now → SameCounts old now → SoFar start mid old now
     → IsRoundFault mid e now later fault → EndsRounds start e old later fault
-ends_rounds start mid e old now later Write same counts before rose = rose_from old.writes now.writes later.writes counts.writes rose
-ends_rounds start mid e old now later (PoolFull n) same counts before (pulled, spent, kept) =
+ends_rounds start mid e old now later Write same counts quiet before rose = rose_from old.writes now.writes later.writes counts.writes rose
+ends_rounds start mid e old now later (PoolFull n) same counts quiet before (pulled, spent, kept, still) =
     let passed : passed_of mid 0 ≡ n * start.heap.block = ap (λ xs. slice_index xs 0 * mid.heap.block) pulled ∙ ap (λ b. n * b) same.block in (
       record {
         same = same_then start mid e same spent.same;
@@ -181,8 +181,8 @@ ends_rounds start mid e old now later (PoolFull n) same counts before (pulled, s
         stopped = spent.stopped;
       },
       kept ∙ before ∙ ap (λ m. written (frame_of (take m (channel_at start 0))) old.created) passed,
+      quiet_then old now later quiet still,
     )
-ends_rounds start mid e old now later OutOfMemory same counts before is = tt
 
 -- two multiples of b that lie within one b above a number are the same
 one_multiple : (k d b len : ℕ) → len ≤ k * b → k * b < len + b → len ≤ d * b → d * b < len + b → k ≡ d
@@ -220,6 +220,7 @@ pub record RoundsSoFar (start e : EngineState) (old now : HostState) (file : ℕ
   pub same : SamePiece start e
   pub under : IsUnderway e
   pub counts : NoneFell old now
+  pub quiet : SameCounts old now
   pub output : now.output ≡ Some file
   pub files : now.files ≡ old.files
   pub printed : now.printed ≡ old.printed
@@ -244,6 +245,7 @@ rounds_begin e old file under begins output = record {
   same = same_piece e;
   under = under;
   counts = counts_none old;
+  quiet = quiet_none old;
   output = output;
   files = refl;
   printed = refl;
@@ -254,12 +256,13 @@ rounds_begin e old file under begins output = record {
 }
 
 pub rounds_on : (start mid e : EngineState) (old now later : HostState) (file : ℕ) → RoundsSoFar start mid old now file → SamePiece mid e → IsUnderway e
-    → passed_of e 0 ≡ passed_of mid 0 + mid.heap.block → Wrote (frame_of (next_block mid 0)) now later → NoneFell now later → later.output ≡ now.output
+    → passed_of e 0 ≡ passed_of mid 0 + mid.heap.block → Wrote (frame_of (next_block mid 0)) now later → NoneFell now later → SameCounts now later → later.output ≡ now.output
     → later.files ≡ now.files → later.printed ≡ now.printed → RoundsSoFar start e old later file
-rounds_on start mid e old now later file so same under passed wrote counts output files printed = record {
+rounds_on start mid e old now later file so same under passed wrote counts quiet output files printed = record {
   same = same_then start mid e so.same same;
   under = under;
   counts = counts_then old now later so.counts counts;
+  quiet = quiet_then old now later so.quiet quiet;
   output = output ∙ so.output;
   files = files ∙ so.files;
   printed = printed ∙ so.printed;

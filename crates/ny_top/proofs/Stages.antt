@@ -3,15 +3,29 @@ use Rattle.std.proofs.Common.{◌≡◌, ℕ, ◌≤◌, ◌<◌, ◌⊎◌, Lis
 use Rattle.std.specs.declared.option.Option.{Option}
 use Rattle.std.specs.Io.KnownBytes.{append_known}
 use Rattle.ny_io.specs.Faults.{Rose}
-use Rattle.ny_io.specs.Host.{HostState, Named, NoneFell, bytes_under, added}
+use Rattle.ny_io.specs.Host.{HostState, Named, NoneFell, SameCounts, SameOutput, bytes_under, added}
 use Rattle.ny_syntax.specs.declared.tree.Tree.{Tree}
 use Rattle.ny_pull.specs.Engine.{EngineState}
 use Rattle.ny_top.specs.Channel.{file_of}
 use Rattle.ny_top.specs.declared.status.Status.{Status}
 use Rattle.ny_top.specs.Words.{Task, Command, render, check, read_words}
 use Rattle.ny_top.specs.Outcome.{Outcome, most, refused, too_long_line, create_line, usage_outcome, HasReadOutcome, HasTextOutcome, HasCommandOutcome, HasOutcome}
-use Rattle.ny_top.specs.Ends.{made, IsOutcome, EndsAs, ToldAs, FaultTold, WriteTold, CreateTold, MadePart, MadeTree, MadeText, Makes}
+use Rattle.ny_top.specs.Ends.{made, IsOutcome, EndsAs, ToldAs, FaultTold, WriteTold, CreateCause, CreateTold, OpenCause, HasPiece, MadePart, MadeTree, MadeText, Makes}
 use Rattle.ny_top.proofs.FaultLines.{told_from}
+
+pub quiet_none : (old : HostState) → SameCounts old old
+quiet_none old = record { opens = λ name. refl; reads = λ name. refl; creates = λ name. refl; writes = refl }
+
+pub quiet_then : (old mid new : HostState) → SameCounts old mid → SameCounts mid new → SameCounts old new
+quiet_then old mid new first second = record {
+  opens = λ name. second.opens name ∙ first.opens name;
+  reads = λ name. second.reads name ∙ first.reads name;
+  creates = λ name. second.creates name ∙ first.creates name;
+  writes = second.writes ∙ first.writes;
+}
+
+pub output_then : (old mid new : HostState) → SameOutput old mid → SameOutput mid new → SameOutput old new
+output_then old mid new first second = record { output = second.output ∙ first.output; created = second.created ∙ first.created }
 
 -- Between two states a text was read, and nothing was created or printed.
 pub record Untouched (old mid : HostState) : Type 0 where
@@ -51,6 +65,24 @@ create_from (render r) old mid new same told = (
   rose_from (old.creates r.to) (mid.creates r.to) (new.creates r.to) (same.counts.creates r.to) told.0,
   told_from (create_line r.to) old mid new same.counts.writes same.printed told.1,
 )
+
+create_cause_from : (task : Task) (old mid new : HostState) → Untouched old mid → CreateCause task mid new → CreateCause task old new
+create_cause_from check old mid new same cause = cause
+create_cause_from (render r) old mid new same cause = (
+  rose_from (old.creates r.to) (mid.creates r.to) (new.creates r.to) (same.counts.creates r.to) cause.0,
+  cause.1 ∙ ap (λ known. append_known known (create_line r.to)) same.printed,
+)
+
+piece_read : (files : Option (List Named)) (from text : List ℕ) → IfSome files (λ files. text ≡ bytes_under from files) → HasPiece text
+    → IfSome files (λ files. HasPiece (bytes_under from files))
+piece_read None from text whole piece = tt
+piece_read (Some files) from text whole piece = subst HasPiece whole piece
+
+-- the output of a text that was read could not be created
+pub not_created : (command : Command) (text : List ℕ) (old mid new : HostState) → Untouched old mid
+    → IfSome old.files (λ files. text ≡ bytes_under command.from files) → CreateCause command.task mid new → HasPiece text → OpenCause command old new
+not_created command text old mid new same whole cause piece =
+    inr (create_cause_from command.task old mid new same cause, piece_read old.files command.from text whole piece)
 
 told_read : (task : Task) (from text : List ℕ) (left : Option EngineState) (old mid new : HostState) → Untouched old mid
     → IfSome old.files (λ files. text ≡ bytes_under from files) → length text ≤ most → ToldAs (HasReadOutcome task text left) mid new

@@ -1,5 +1,5 @@
 -- What stands at the end of a run, whatever failed.
-use Rattle.std.specs.Prelude.{ℕ, ◌≡◌, ◌≤◌, ◌+◌, ◌-◌, ◌^◌, ◌⊎◌, List, [], take, min, IfSome, IsSomeAnd, None, Some, Bool, true, false}
+use Rattle.std.specs.Prelude.{ℕ, ◌≡◌, ◌≤◌, ◌+◌, ◌-◌, ◌^◌, ◌⊎◌, List, [], take, length, min, IfSome, IsSomeAnd, None, Some, Bool, true, false}
 use Rattle.std.specs.declared.option.Option.{Option}
 use Rattle.std.specs.Io.KnownBytes.{append_known}
 use Rattle.ny_io.specs.Faults.{Rose}
@@ -11,7 +11,7 @@ use Rattle.ny_top.specs.Channel.{playable, file_of}
 use Rattle.ny_top.specs.Playing.{IsPoolFull}
 use Rattle.ny_top.specs.Reading.{IsAccepted}
 use Rattle.ny_top.specs.Words.{Task, Command, render, check}
-use Rattle.ny_top.specs.Outcome.{Outcome, usage_line, open_line, read_line, create_line, write_line, HasTextOutcome}
+use Rattle.ny_top.specs.Outcome.{Outcome, most, usage_line, open_line, read_line, create_line, write_line, HasTextOutcome}
 use Rattle.ny_top.specs.declared.status.Status.{Status}
 use Rattle.ny_top.specs.declared.status.Status.TheVariants.{Ok, Usage, OpenFault, ReadFault, WriteFault, Refused, PoolFull, OutOfMemory}
 
@@ -39,6 +39,28 @@ is_whole OpenFault = false
 is_whole ReadFault = false
 is_whole WriteFault = false
 is_whole OutOfMemory = false
+
+-- a status that no failed call brings
+abbrev pub is_unfailed : Status → Bool
+is_unfailed OutOfMemory = true
+is_unfailed Ok = true
+is_unfailed Usage = true
+is_unfailed Refused = true
+is_unfailed PoolFull = true
+is_unfailed OpenFault = false
+is_unfailed ReadFault = false
+is_unfailed WriteFault = false
+
+-- a status that stands before an output is created
+abbrev pub is_early : Status → Bool
+is_early Usage = true
+is_early OpenFault = true
+is_early ReadFault = true
+is_early Refused = true
+is_early OutOfMemory = true
+is_early Ok = false
+is_early WriteFault = false
+is_early PoolFull = false
 
 -- the line of a failed write was tried once: it was printed, or a first part of it was and the count rose again
 abbrev pub FaultPart : HostState → HostState → Type 0
@@ -78,6 +100,14 @@ Makes command old new =
     (new.created ≡ old.created)
     ⊎ ((text : List ℕ) × IfSome old.files (λ files. text ≡ bytes_under command.from files) × MadeText command.task text old new)
 
+-- the tree can be played
+abbrev pub CanBePlayed : Tree → Type 0
+CanBePlayed tree = (code : Code) × (playable tree ≡ Some code)
+
+-- the text is accepted, and its tree can be played
+abbrev pub HasPiece : List ℕ → Type 0
+HasPiece text = (length text ≤ most) × ((tree : Tree) × IsAccepted text tree × CanBePlayed tree)
+
 -- the output could not be created, and its whole line was printed
 abbrev pub CreateCause : Task → HostState → HostState → Type 0
 CreateCause check old new = ⊥
@@ -106,11 +136,12 @@ WriteTold command left old new =
     ⊎ (Rose (old.reads command.from) (new.reads command.from) × FaultTold (read_line command.from) old new)
     ⊎ CreateTold command.task old new
 
--- The input can't be opened, or the output can't be created: the count rose, and the whole line was printed.
+-- The input can't be opened; or the output can't be created, which is tried for a text alone that can be played. The count
+-- rose, and the whole line was printed.
 abbrev pub OpenCause : Command → HostState → HostState → Type 0
 OpenCause command old new =
     (Rose (old.opens command.from) (new.opens command.from) × (new.printed ≡ append_known old.printed (open_line command.from)))
-    ⊎ CreateCause command.task old new
+    ⊎ (CreateCause command.task old new × IfSome old.files (λ files. HasPiece (bytes_under command.from files)))
 
 -- The input can't be read: the count rose, and the whole line was printed.
 abbrev pub ReadCause : Command → HostState → HostState → Type 0

@@ -2,7 +2,7 @@
 use Rattle.std.specs.Prelude.{◌≡◌, ℕ, ◌+◌, ◌*◌, ◌<◌, ◌≤◌, List, [], ◌∷◌, take, length, Some, None}
 use Rattle.std.specs.Int.{div_ceil}
 use Rattle.ny_io.specs.Faults.{Rose}
-use Rattle.ny_io.specs.Host.{HostState, written}
+use Rattle.ny_io.specs.Host.{HostState, SameCounts, written}
 use Rattle.ny_heap.specs.Reach.{HeapLaws}
 use Rattle.ny_pull.specs.Engine.{EngineState, channel_at, passed_of, HasEnded, SamePiece}
 use Rattle.ny_pull.specs.declared.fault.PullFault.TheVariants as faults
@@ -10,7 +10,7 @@ use Rattle.ny_wav.specs.WavFile.{frame_of}
 use Rattle.ny_top.specs.Channel.{first_frames}
 use Rattle.ny_top.specs.Playing.{IsStopped}
 use Rattle.ny_top.specs.declared.rounds.RoundFault.{RoundFault}
-use Rattle.ny_top.specs.declared.rounds.RoundFault.TheVariants.{Write, PoolFull, OutOfMemory}
+use Rattle.ny_top.specs.declared.rounds.RoundFault.TheVariants.{Write, PoolFull}
 
 -- an engine between two rounds: each pull so far gave samples
 pub record IsUnderway (e : EngineState) : Type 0 where
@@ -42,22 +42,20 @@ pub record IsSpentAfter (start e : EngineState) (count : ℕ) : Type 0 where
   pub spent : e.spent ≡ Some (faults.PoolFull count start.heap.pool)
   pub stopped : IsStopped e
 
--- why a round ended early. At a full pool nothing of it was written
+-- why a round ended early. At a full pool nothing of it was written, and no count changed
 abbrev pub IsRoundFault : EngineState → EngineState → HostState → HostState → RoundFault → Type 0
 IsRoundFault start e old new Write = Rose old.writes new.writes
-IsRoundFault start e old new (PoolFull count) = (start.pulled ≡ count ∷ []) × IsSpentAfter start e count × (new.created ≡ old.created)
-IsRoundFault start e old new OutOfMemory = Unit {0}
+IsRoundFault start e old new (PoolFull count) = (start.pulled ≡ count ∷ []) × IsSpentAfter start e count × (new.created ≡ old.created) × SameCounts old new
 
--- why the rounds ended early. At a full pool the frames of all rounds before were written
+-- why the rounds ended early. At a full pool the frames of all rounds before were written, and no count changed
 abbrev pub EndsRounds : EngineState → EngineState → HostState → HostState → RoundFault → Type 0
 EndsRounds start e old new Write = Rose old.writes new.writes
 EndsRounds start e old new (PoolFull count) =
-    IsSpentAfter start e count × Wrote (frame_of (take (count * start.heap.block) (channel_at start 0))) old new
-EndsRounds start e old new OutOfMemory = Unit {0}
+    IsSpentAfter start e count × Wrote (frame_of (take (count * start.heap.block) (channel_at start 0))) old new × SameCounts old new
 
--- why the file's parts ended early. At a full pool its header and the frames of all rounds before were written
+-- why the file's parts ended early. At a full pool its header and the frames of all rounds before were written, and no
+-- count changed
 abbrev pub EndsFile : EngineState → EngineState → HostState → HostState → RoundFault → Type 0
 EndsFile start e old new Write = Rose old.writes new.writes
 EndsFile start e old new (PoolFull count) =
-    IsSpentAfter start e count × Wrote (first_frames start.rate start.code (count * start.heap.block)) old new
-EndsFile start e old new OutOfMemory = Unit {0}
+    IsSpentAfter start e count × Wrote (first_frames start.rate start.code (count * start.heap.block)) old new × SameCounts old new

@@ -1,10 +1,11 @@
 ghost use Rattle.std.specs.Prelude.{◌≡◌, ◌≢◌, ◌⊎◌, List, Option, None, map, string_bytes, IsTrue, IfSome, IsSomeAnd};
+ghost use Rattle.std.specs.Io.KnownBytes.{append_known};
 ghost use Rattle.ny_io.specs.Faults.{Rose};
-ghost use Rattle.ny_io.specs.Host.{NoneFell, Named};
+ghost use Rattle.ny_io.specs.Host.{NoneFell, SameCounts, SameOutput, Named};
 ghost use Rattle.ny_pull.specs.Engine.{EngineState};
-ghost use Rattle.ny_top.specs.Outcome.{Outcome, HasOutcome, IsRefused, IsUnrefused};
+ghost use Rattle.ny_top.specs.Outcome.{Outcome, HasOutcome, usage_line, IsRefused, IsUnrefused};
 ghost use Rattle.ny_top.specs.Words.{read_words};
-ghost use Rattle.ny_top.specs.Ends.{OpenCause, ReadCause, NoneRose, RunWriteTold, RunMakes, EndsAs, TaskPoolFull, is_whole};
+ghost use Rattle.ny_top.specs.Ends.{OpenCause, ReadCause, NoneRose, RunWriteTold, RunMakes, EndsAs, TaskPoolFull, is_whole, is_unfailed, is_early};
 
 use crate::ends::finish;
 use crate::names::run_names;
@@ -47,10 +48,17 @@ pub fn run<H: Host>(
     ensures cause_pool_full { result ≡ Status.PoolFull
         → IsSomeAnd (read_words (map string_bytes words.now)) (λ command. TaskPoolFull command.task left.new) }
 
+    // A count of faults changed only where the answer is a fault: none is told as want of memory, or as
+    // anything else, and none is passed over.
+    ensures unfailed { IsTrue (is_unfailed result) → SameCounts (H.state host.old) (H.state host.new) }
+    // An output is created only where the piece is played: at Ok, at a full pool and at a failed write.
+    ensures early { IsTrue (is_early result) → SameOutput (H.state host.old) (H.state host.new) }
+
     // At most one file is created, for a command alone, and it holds a first part of the one WAV file.
     ensures prefix { RunMakes (read_words (map string_bytes words.now)) (H.state host.old) (H.state host.new) }
 
-    // What is printed where a write failed, and where memory was wanting.
+    // What is printed at usage also where the host tells no files, where a write failed, and where memory was wanting.
+    ensures printed_usage { result ≡ Status.Usage → (H.state host.new).printed ≡ append_known (H.state host.old).printed usage_line }
     ensures printed_fault { result ≡ Status.WriteFault → RunWriteTold (read_words (map string_bytes words.now)) left.new (H.state host.old) (H.state host.new) }
     ensures printed_memory { result ≡ Status.OutOfMemory → (H.state host.new).printed ≡ (H.state host.old).printed }
 

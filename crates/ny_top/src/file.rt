@@ -1,15 +1,15 @@
 ghost use Rattle.std.specs.Prelude.{◌≡◌, ◌≢◌, ◌*◌, ◌⊎◌, [], Some, length, IfErr, OnOk, OnErr, IsTrue};
 ghost use Rattle.std.specs.Io.KnownBytes.{append_known};
 ghost use Rattle.ny_io.specs.Faults.{Rose};
-ghost use Rattle.ny_io.specs.Host.{NoneFell};
+ghost use Rattle.ny_io.specs.Host.{NoneFell, SameCounts, SameOutput};
 ghost use Rattle.ny_top.specs.Channel.{file_of};
 ghost use Rattle.ny_top.specs.Outcome.{create_line, HasPlayOutcome};
 ghost use Rattle.ny_top.specs.Playing.{IsNew, IsPoolFull};
 ghost use Rattle.ny_top.specs.Rounds.{IsPulledOut, EndsFile, Wrote, WrotePart};
-ghost use Rattle.ny_top.specs.Ends.{FaultTold, ToldAs, EndsAs, MadePart, is_whole};
+ghost use Rattle.ny_top.specs.Ends.{FaultTold, ToldAs, EndsAs, MadePart, is_whole, is_unfailed, is_early};
 ghost use Rattle.ny_top.specs.Views.{render_view};
 
-use crate::ends::{end_at, end_full, tell_fault};
+use crate::ends::{OutputLines, end_at, end_full, tell_fault};
 use crate::rounds::{Buffers, RoundFault, rounds};
 use crate::status::Status;
 use crate::words::Render;
@@ -32,6 +32,7 @@ fn write_parts<H: Host>(
     requires samples { length buffers.old.samples.items ≡ render.block }
     requires bytes { length buffers.old.bytes.items ≡ 2 * render.block }
     ensures counts { NoneFell (H.state host.old) (H.state host.new) }
+    ensures quiet { OnOk result (SameCounts (H.state host.old) (H.state host.new)) }
     ensures played { OnOk result (IsPulledOut engine.old engine.new) }
     ensures whole { OnOk result (Wrote (file_of render.entry.rate engine.old.code) (H.state host.old) (H.state host.new)) }
     ensures fault { IfErr result (λ fault. EndsFile engine.old engine.new (H.state host.old) (H.state host.new) fault) }
@@ -53,20 +54,24 @@ fn write_parts<H: Host>(
     }
 }
 
-/// Creates the output and plays an engine into it that was just opened.
+/// Creates the output and plays an engine into it that was just opened. From here on no memory is
+/// taken.
 pub(crate) fn write_file<H: Host>(
     alloc: Global,
     host: &mut H,
     render: Render,
     engine: &mut Engine,
     buffers: &mut Buffers,
+    lines: OutputLines,
 ) -> Status
     requires new { IsNew (render_view render) engine.old }
     requires samples { length buffers.old.samples.items ≡ render.block }
     requires bytes { length buffers.old.bytes.items ≡ 2 * render.block }
+    requires line { lines.create.items ≡ create_line render.output.now }
     ensures counts { NoneFell (H.state host.old) (H.state host.new) }
     ensures files { (H.state host.new).files ≡ (H.state host.old).files }
-    ensures status { (result ≢ Status.Usage) × (result ≢ Status.ReadFault) × (result ≢ Status.Refused) }
+    ensures status { (result ≢ Status.Usage) × (result ≢ Status.ReadFault) × (result ≢ Status.Refused) × (result ≢ Status.OutOfMemory) }
+    ensures unfailed { IsTrue (is_unfailed result) → SameCounts (H.state host.old) (H.state host.new) }
     ensures whole { IsTrue (is_whole result) → EndsAs (HasPlayOutcome (render_view render.entry) engine.old.code engine.new) result (H.state host.old) (H.state host.new) }
     ensures pool_full { result ≡ Status.PoolFull → IsPoolFull (render_view render.entry) engine.new }
     ensures create { result ≡ Status.OpenFault → Rose ((H.state host.old).creates render.entry.output.now) ((H.state host.new).creates render.entry.output.now)
@@ -75,20 +80,12 @@ pub(crate) fn write_file<H: Host>(
     ensures told { result ≡ Status.WriteFault → FaultTold [] (H.state host.old) (H.state host.new)
         ⊎ ToldAs (HasPlayOutcome (render_view render.entry) engine.old.code engine.new) (H.state host.old) (H.state host.new)
         ⊎ (Rose ((H.state host.old).creates render.entry.output.now) ((H.state host.new).creates render.entry.output.now) × FaultTold (create_line render.entry.output.now) (H.state host.old) (H.state host.new)) }
-    ensures memory { result ≡ Status.OutOfMemory → (H.state host.new).printed ≡ (H.state host.old).printed }
+    ensures early { IsTrue (is_early result) → SameOutput (H.state host.old) (H.state host.new) }
     ensures part { MadePart render.entry.output.now (file_of render.entry.rate engine.old.code) (H.state host.old) (H.state host.new) }
 {
     let file = match host.create(render.output) {
         Ok(file) => file,
-        Err(_) => {
-            return end_at(
-                alloc,
-                host,
-                Status::OpenFault,
-                b"fault: create ",
-                render.output,
-            );
-        }
+        Err(_) => return end_at(host, Status::OpenFault, lines.create),
     };
     match write_parts(alloc, host, file, render, engine, buffers) {
         Ok(()) => Status::Ok,
@@ -96,7 +93,6 @@ pub(crate) fn write_file<H: Host>(
             tell_fault(host);
             Status::WriteFault
         }
-        Err(RoundFault::PoolFull { pulls }) => end_full(alloc, host, pulls),
-        Err(RoundFault::OutOfMemory) => Status::OutOfMemory,
+        Err(RoundFault::PoolFull { pulls }) => end_full(host, lines.full, pulls),
     }
 }

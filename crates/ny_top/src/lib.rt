@@ -11,7 +11,9 @@ mod rounds;
 mod song;
 mod status;
 mod text;
+mod unfailing;
 mod words;
 
 pub use entry::run;
 pub use status::Status;
+pub use unfailing::run_unfailing;

@@ -1,13 +1,13 @@
 ghost use Rattle.std.specs.Prelude.{◌≡◌, ◌≢◌, None, IsTrue, IfSome};
 ghost use Rattle.std.specs.Io.KnownBytes.{append_known};
 ghost use Rattle.ny_io.specs.Faults.{Rose};
-ghost use Rattle.ny_io.specs.Host.{NoneFell, bytes_under};
+ghost use Rattle.ny_io.specs.Host.{NoneFell, SameCounts, SameOutput, bytes_under};
 ghost use Rattle.ny_top.specs.Outcome.{HasTextOutcome};
-ghost use Rattle.ny_top.specs.Ends.{WriteTold, Makes, OpenCause, ReadCause, EndsAs, TaskPoolFull, is_whole};
+ghost use Rattle.ny_top.specs.Ends.{WriteTold, Makes, OpenCause, ReadCause, EndsAs, TaskPoolFull, is_whole, is_unfailed, is_early};
 ghost use Rattle.ny_top.specs.Views.{command_view};
 ghost use Rattle.ny_top.specs.Words.{IsInRange};
 
-use crate::ends::{end_at, finish};
+use crate::ends::{end_at, finish, input_lines};
 use crate::status::Status;
 use crate::text::run_text;
 use crate::words::Command;
@@ -30,6 +30,7 @@ pub(crate) fn run_names<H: Host>(
     ensures counts { NoneFell (H.state host.old) (H.state host.new) }
     ensures files { (H.state host.new).files ≡ (H.state host.old).files }
     ensures status { result ≢ Status.Usage }
+    ensures unfailed { IsTrue (is_unfailed result) → SameCounts (H.state host.old) (H.state host.new) }
     ensures whole { IsTrue (is_whole result) → IfSome (H.state host.old).files (λ files.
         EndsAs (HasTextOutcome (command_view command.entry).task (bytes_under (command_view command.entry).from files) left.new) result (H.state host.old) (H.state host.new)) }
     ensures pool_full { result ≡ Status.PoolFull → TaskPoolFull (command_view command.entry).task left.new }
@@ -38,13 +39,17 @@ pub(crate) fn run_names<H: Host>(
     ensures write { result ≡ Status.WriteFault → Rose (H.state host.old).writes (H.state host.new).writes }
     ensures told { result ≡ Status.WriteFault → WriteTold (command_view command.entry) left.new (H.state host.old) (H.state host.new) }
     ensures memory { result ≡ Status.OutOfMemory → (H.state host.new).printed ≡ (H.state host.old).printed }
+    ensures early { IsTrue (is_early result) → SameOutput (H.state host.old) (H.state host.new) }
     ensures part { Makes (command_view command.entry) (H.state host.old) (H.state host.new) }
 {
     let from = command.input;
+    let Ok(lines) = input_lines(alloc, from) else {
+        return Status::OutOfMemory;
+    };
     match read_all(alloc, host, from, MOST) {
         Ok(text) => run_text(alloc, host, command.task, &text, left),
-        Err(LoadFault::Open) => end_at(alloc, host, Status::OpenFault, b"fault: open ", from),
-        Err(LoadFault::Read) => end_at(alloc, host, Status::ReadFault, b"fault: read ", from),
+        Err(LoadFault::Open) => end_at(host, Status::OpenFault, lines.open),
+        Err(LoadFault::Read) => end_at(host, Status::ReadFault, lines.read),
         Err(LoadFault::TooLong) => finish(host, Status::Refused, b"refused: too long\n"),
         Err(LoadFault::OutOfMemory) => Status::OutOfMemory,
     }

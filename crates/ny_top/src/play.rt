@@ -1,10 +1,10 @@
 ghost use Rattle.std.specs.Prelude.{◌≡◌, ◌≢◌, ◌⊎◌, [], None, Some, IsTrue};
 ghost use Rattle.std.specs.Io.KnownBytes.{append_known};
 ghost use Rattle.ny_io.specs.Faults.{Rose};
-ghost use Rattle.ny_io.specs.Host.{NoneFell};
+ghost use Rattle.ny_io.specs.Host.{NoneFell, SameCounts, SameOutput};
 ghost use Rattle.ny_check.specs.Acceptance.{program_in};
 ghost use Rattle.ny_top.specs.Outcome.{HasTreeOutcome};
-ghost use Rattle.ny_top.specs.Ends.{FaultTold, ToldAs, EndsAs, MadeTree, CreateCause, CreateTold, TaskPoolFull, is_whole};
+ghost use Rattle.ny_top.specs.Ends.{FaultTold, ToldAs, EndsAs, CanBePlayed, MadeTree, CreateCause, CreateTold, TaskPoolFull, is_whole, is_unfailed, is_early};
 ghost use Rattle.ny_top.specs.Views.{task_view};
 ghost use Rattle.ny_top.specs.Words.{IsInRange};
 ghost use Rattle.ny_top.specs.declared.words.Task.TheVariants.{Render as Plays};
@@ -19,8 +19,8 @@ use ny_io::Host;
 use ny_pull::Engine;
 use std::alloc::Global;
 
-/// Plays an accepted text into a file, and leaves the engine that was pulled. All memory but that of a
-/// line is taken before the file is created.
+/// Plays an accepted text into a file, and leaves the engine that was pulled. All memory is taken before
+/// the file is created.
 pub(crate) fn play<H: Host>(
     alloc: Global,
     host: &mut H,
@@ -34,14 +34,17 @@ pub(crate) fn play<H: Host>(
     ensures counts { NoneFell (H.state host.old) (H.state host.new) }
     ensures files { (H.state host.new).files ≡ (H.state host.old).files }
     ensures status { (result ≢ Status.Usage) × (result ≢ Status.ReadFault) }
+    ensures unfailed { IsTrue (is_unfailed result) → SameCounts (H.state host.old) (H.state host.new) }
     ensures whole { IsTrue (is_whole result) → EndsAs (HasTreeOutcome (task_view (Plays render.entry)) accepted.tree left.new) result (H.state host.old) (H.state host.new) }
     ensures pool_full { result ≡ Status.PoolFull → TaskPoolFull (task_view (Plays render.entry)) left.new }
+    ensures piece { result ≡ Status.OpenFault → CanBePlayed accepted.tree }
     ensures create { result ≡ Status.OpenFault → CreateCause (task_view (Plays render.entry)) (H.state host.old) (H.state host.new) }
     ensures write { result ≡ Status.WriteFault → Rose (H.state host.old).writes (H.state host.new).writes }
     ensures told { result ≡ Status.WriteFault → FaultTold [] (H.state host.old) (H.state host.new)
         ⊎ ToldAs (HasTreeOutcome (task_view (Plays render.entry)) accepted.tree left.new) (H.state host.old) (H.state host.new)
         ⊎ CreateTold (task_view (Plays render.entry)) (H.state host.old) (H.state host.new) }
     ensures memory { result ≡ Status.OutOfMemory → (H.state host.new).printed ≡ (H.state host.old).printed }
+    ensures early { IsTrue (is_early result) → SameOutput (H.state host.old) (H.state host.new) }
     ensures part { MadeTree (task_view (Plays render.entry)) accepted.tree (H.state host.old) (H.state host.new) }
 {
     match open_song(alloc, render, accepted.program) {
@@ -49,8 +52,9 @@ pub(crate) fn play<H: Host>(
             let Song {
                 mut engine,
                 mut buffers,
+                lines,
             } = song;
-            let status = write_file(alloc, host, render, &mut engine, &mut buffers);
+            let status = write_file(alloc, host, render, &mut engine, &mut buffers, lines);
             *left = Some(engine);
             status
         }

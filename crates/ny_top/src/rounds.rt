@@ -1,6 +1,6 @@
 ghost use Rattle.std.specs.Prelude.{◌≡◌, ◌*◌, ◌+◌, ◌<◌, ◌≤◌, Some, length, IfOk, IfErr, OnOk, OnErr};
 ghost use Rattle.ny_io.specs.Faults.{Rose};
-ghost use Rattle.ny_io.specs.Host.{NoneFell};
+ghost use Rattle.ny_io.specs.Host.{NoneFell, SameCounts};
 ghost use Rattle.ny_pull.specs.Engine.{channel_at, passed_of, next_block, SamePiece};
 ghost use Rattle.ny_wav.specs.WavFile.{frame_of};
 ghost use Rattle.ny_top.specs.Rounds.{IsUnderway, IsPulledOut, IsRoundFault, EndsRounds, Wrote, WrotePart};
@@ -17,7 +17,6 @@ pub(crate) enum RoundFault {
     Write,
     /// The pool was full, after so many pulls that gave samples.
     PoolFull { pulls: u64 },
-    OutOfMemory,
 }
 
 /// Where rounds are made: the samples of a block, and the bytes of their frames.
@@ -48,6 +47,7 @@ fn write_frames<H: Host>(
     requires open { (H.state host.old).output ≡ Some file }
     requires room { 2 * length samples.now ≤ length bytes.old }
     ensures counts { NoneFell (H.state host.old) (H.state host.new) }
+    ensures quiet { OnOk result (SameCounts (H.state host.old) (H.state host.new)) }
     ensures cause { OnErr result (Rose (H.state host.old).writes (H.state host.new).writes) }
     ensures whole { OnOk result (Wrote (frame_of samples.now) (H.state host.old) (H.state host.new)) }
     ensures part { OnErr result (WrotePart (frame_of samples.now) (H.state host.old) (H.state host.new)) }
@@ -76,6 +76,7 @@ fn round<H: Host>(
     requires samples { length samples.old ≡ engine.old.heap.block }
     requires bytes { length bytes.old ≡ 2 * engine.old.heap.block }
     ensures counts { NoneFell (H.state host.old) (H.state host.new) }
+    ensures quiet { OnOk result (SameCounts (H.state host.old) (H.state host.new)) }
     ensures same { SamePiece engine.old engine.new }
     ensures underway { OnOk result (IsUnderway engine.new) }
     ensures passed { OnOk result (passed_of engine.new 0 ≡ passed_of engine.old 0 + engine.old.heap.block) }
@@ -91,7 +92,8 @@ fn round<H: Host>(
     let count = match engine.pull(alloc, 0, samples) {
         Ok(count) => count,
         Err(PullFault::PoolFull { pulls, .. }) => return Err(RoundFault::PoolFull { pulls }),
-        Err(PullFault::OutOfMemory) => return Err(RoundFault::OutOfMemory),
+        // Only a part that waits takes memory when it is pulled, and none waits.
+        Err(PullFault::OutOfMemory) => unreachable!(),
     };
     match write_frames(host, file, &samples[..count], bytes) {
         Ok(()) => Ok(()),
@@ -115,6 +117,7 @@ pub(crate) fn rounds<H: Host>(
     requires samples { length samples.old ≡ engine.old.heap.block }
     requires bytes { length bytes.old ≡ 2 * engine.old.heap.block }
     ensures counts { NoneFell (H.state host.old) (H.state host.new) }
+    ensures quiet { OnOk result (SameCounts (H.state host.old) (H.state host.new)) }
     ensures played { OnOk result (IsPulledOut engine.old engine.new) }
     ensures whole { OnOk result (Wrote (frame_of (channel_at engine.old 0)) (H.state host.old) (H.state host.new)) }
     ensures fault { IfErr result (λ fault. EndsRounds engine.old engine.new (H.state host.old) (H.state host.new) fault) }

@@ -1,13 +1,13 @@
 ghost use Rattle.std.specs.Prelude.{◌≡◌, ◌≢◌, ◌≤◌, ◌⊎◌, [], length, None, Some, IsTrue};
 ghost use Rattle.std.specs.Io.KnownBytes.{append_known};
 ghost use Rattle.ny_io.specs.Faults.{Rose};
-ghost use Rattle.ny_io.specs.Host.{NoneFell, SameOutput};
+ghost use Rattle.ny_io.specs.Host.{NoneFell, SameCounts, SameOutput};
 ghost use Rattle.ny_syntax.specs.Grammar.{height_limit};
 ghost use Rattle.ny_syntax.specs.Canonical.{canonical_height, canonical_text};
 ghost use Rattle.ny_check.specs.Acceptance.{program_in};
 ghost use Rattle.ny_top.specs.Reading.{refusal_text};
 ghost use Rattle.ny_top.specs.Outcome.{HasReadOutcome, HasTreeOutcome, refused};
-ghost use Rattle.ny_top.specs.Ends.{FaultTold, ToldAs, EndsAs, MadeTree, MadeText, CreateCause, CreateTold, TaskPoolFull, IsOutcome, is_whole};
+ghost use Rattle.ny_top.specs.Ends.{FaultTold, ToldAs, EndsAs, CanBePlayed, HasPiece, MadeTree, MadeText, CreateCause, CreateTold, TaskPoolFull, IsOutcome, is_whole, is_unfailed, is_early};
 ghost use Rattle.ny_top.specs.Views.{task_view};
 ghost use Rattle.ny_top.specs.Words.{IsInRange};
 
@@ -27,6 +27,7 @@ fn refuse<H: Host>(alloc: Global, host: &mut H, refusal: Refusal) -> Status
     ensures output { SameOutput (H.state host.old) (H.state host.new) }
     ensures files { (H.state host.new).files ≡ (H.state host.old).files }
     ensures status { (result ≡ Status.Refused) ⊎ (result ≡ Status.WriteFault) ⊎ (result ≡ Status.OutOfMemory) }
+    ensures unfailed { IsTrue (is_unfailed result) → SameCounts (H.state host.old) (H.state host.new) }
     ensures whole { IsTrue (is_whole result) → IsOutcome (refused (refusal_text refusal)) result (H.state host.old) (H.state host.new) }
     ensures rose { result ≡ Status.WriteFault → Rose (H.state host.old).writes (H.state host.new).writes }
     ensures fault { result ≡ Status.WriteFault → FaultTold (refusal_text refusal) (H.state host.old) (H.state host.new) }
@@ -45,6 +46,7 @@ fn print_canonical<H: Host>(alloc: Global, host: &mut H, tree: &Tree) -> Status
     ensures output { SameOutput (H.state host.old) (H.state host.new) }
     ensures files { (H.state host.new).files ≡ (H.state host.old).files }
     ensures status { (result ≡ Status.Ok) ⊎ (result ≡ Status.WriteFault) ⊎ (result ≡ Status.OutOfMemory) }
+    ensures unfailed { IsTrue (is_unfailed result) → SameCounts (H.state host.old) (H.state host.new) }
     ensures whole { result ≡ Status.Ok → (H.state host.new).printed ≡ append_known (H.state host.old).printed (canonical_text tree.now) }
     ensures rose { result ≡ Status.WriteFault → Rose (H.state host.old).writes (H.state host.new).writes }
     ensures fault { result ≡ Status.WriteFault → FaultTold (canonical_text tree.now) (H.state host.old) (H.state host.new) }
@@ -71,14 +73,17 @@ fn run_accepted<H: Host>(
     ensures counts { NoneFell (H.state host.old) (H.state host.new) }
     ensures files { (H.state host.new).files ≡ (H.state host.old).files }
     ensures status { (result ≢ Status.Usage) × (result ≢ Status.ReadFault) }
+    ensures unfailed { IsTrue (is_unfailed result) → SameCounts (H.state host.old) (H.state host.new) }
     ensures whole { IsTrue (is_whole result) → EndsAs (HasTreeOutcome (task_view task.entry) accepted.tree left.new) result (H.state host.old) (H.state host.new) }
     ensures pool_full { result ≡ Status.PoolFull → TaskPoolFull (task_view task.entry) left.new }
+    ensures piece { result ≡ Status.OpenFault → CanBePlayed accepted.tree }
     ensures create { result ≡ Status.OpenFault → CreateCause (task_view task.entry) (H.state host.old) (H.state host.new) }
     ensures write { result ≡ Status.WriteFault → Rose (H.state host.old).writes (H.state host.new).writes }
     ensures told { result ≡ Status.WriteFault → FaultTold [] (H.state host.old) (H.state host.new)
         ⊎ ToldAs (HasTreeOutcome (task_view task.entry) accepted.tree left.new) (H.state host.old) (H.state host.new)
         ⊎ CreateTold (task_view task.entry) (H.state host.old) (H.state host.new) }
     ensures memory { result ≡ Status.OutOfMemory → (H.state host.new).printed ≡ (H.state host.old).printed }
+    ensures early { IsTrue (is_early result) → SameOutput (H.state host.old) (H.state host.new) }
     ensures part { MadeTree (task_view task.entry) accepted.tree (H.state host.old) (H.state host.new) }
 {
     match task {
@@ -101,14 +106,17 @@ pub(crate) fn run_text<H: Host>(
     ensures counts { NoneFell (H.state host.old) (H.state host.new) }
     ensures files { (H.state host.new).files ≡ (H.state host.old).files }
     ensures status { (result ≢ Status.Usage) × (result ≢ Status.ReadFault) }
+    ensures unfailed { IsTrue (is_unfailed result) → SameCounts (H.state host.old) (H.state host.new) }
     ensures whole { IsTrue (is_whole result) → EndsAs (HasReadOutcome (task_view task.entry) text.now left.new) result (H.state host.old) (H.state host.new) }
     ensures pool_full { result ≡ Status.PoolFull → TaskPoolFull (task_view task.entry) left.new }
+    ensures piece { result ≡ Status.OpenFault → HasPiece text.now }
     ensures create { result ≡ Status.OpenFault → CreateCause (task_view task.entry) (H.state host.old) (H.state host.new) }
     ensures write { result ≡ Status.WriteFault → Rose (H.state host.old).writes (H.state host.new).writes }
     ensures told { result ≡ Status.WriteFault → FaultTold [] (H.state host.old) (H.state host.new)
         ⊎ ToldAs (HasReadOutcome (task_view task.entry) text.now left.new) (H.state host.old) (H.state host.new)
         ⊎ CreateTold (task_view task.entry) (H.state host.old) (H.state host.new) }
     ensures memory { result ≡ Status.OutOfMemory → (H.state host.new).printed ≡ (H.state host.old).printed }
+    ensures early { IsTrue (is_early result) → SameOutput (H.state host.old) (H.state host.new) }
     ensures part { MadeText (task_view task.entry) text.now (H.state host.old) (H.state host.new) }
 {
     match read_text(alloc, text) {

@@ -39,3 +39,6 @@ pub returns-in-Ok-Some-clause-part : goal.returns-in-Ok-Some-clause-part
 returns-in-Ok-Some-clause-part g c =
     made_of_tree (render_view c.args.render) c.args.accepted.tree _ (g.H.Host.state c.args.host.now) (g.H.Host.state c.write_file-status.new.host)
     (plays_tree c.args.accepted.tree c.args.accepted.program _ c.requires.program (rw c.in-Ok-Some.field-0-is at c.in-Ok-Some.ensures.piece)) c.write_file-status.ensures.part
+
+pub returns-in-Ok-Some-clause-piece : goal.returns-in-Ok-Some-clause-piece
+returns-in-Ok-Some-clause-piece g c = λ is. (_, plays_tree c.args.accepted.tree c.args.accepted.program _ c.requires.program (rw c.in-Ok-Some.field-0-is at c.in-Ok-Some.ensures.piece))

@@ -15,7 +15,7 @@ loop-alloc-preserved g c =
     let so = c.loop-alloc.invariant in
     let r = c.in_ok-round.ensures in (
       rounds_on c.args.engine.now c.loop-alloc.engine c.round.new.engine (g.H.Host.state c.args.host.now) (g.H.Host.state c.loop-alloc.host) (g.H.Host.state c.round.new.host) c.args.file
-          so.0 r.same r.underway r.passed r.whole r.counts r.output r.files r.printed,
+          so.0 r.same r.underway r.passed r.whole r.counts r.quiet r.output r.files r.printed,
       r.samples ∙ so.1,
       r.bytes ∙ so.2,
     )

@@ -31,3 +31,6 @@ returns-in-Err-Refused-clause-told g c = λ is.
       inl (refusal, (rw c.in-Err-Refused.field-0-is at c.in-Err-Refused.ensures.fault), c.requires.left, refl),
       c.refuse.ensures.fault is,
     ))
+
+pub returns-in-Ok-clause-piece : goal.returns-in-Ok-clause-piece
+returns-in-Ok-clause-piece g c = λ is. (c.requires.short, (c.in-Ok.accepted.tree, c.in-Ok.ensures.tree, c.run_accepted.ensures.piece is))
