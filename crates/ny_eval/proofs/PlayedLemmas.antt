@@ -132,7 +132,7 @@ module _ (code : Code) (n e : ℕ) (env : Env) (names : Names) (old new : HeapSt
 -- ---- the sound of the meaning
 
 -- no part waits, so no names are kept
-played_free : (code : Code) (at : NodeOf) (known : ℕ → Bool) → built_node at known ≡ true → KeepFree code (in_turn at)
+played_free : (code : Code) (at : NodeOf) (known : ℕ → Bool) → built_node code at known ≡ true → KeepFree code (in_turn at)
 played_free code (node.Mix o es) known is = not_built is
 played_free code (node.Repeat o i k a) known is = not_built is
 played_free code _ known is = tt
