@@ -16,11 +16,11 @@ const MODULUS: u32 = 65_521;
 
 /// The Adler-32 checksum of the bytes, as zlib has it.
 fn adler32(bytes: &[u8]) -> u32 {
-    let mut low = 1;
-    let mut high = 0;
+    let mut low: u32 = 1;
+    let mut high: u32 = 0;
     for byte in bytes {
-        low = (low + u32::from(*byte)) % MODULUS;
-        high = (high + low) % MODULUS;
+        low = low.wrapping_add(u32::from(*byte)) % MODULUS;
+        high = high.wrapping_add(low) % MODULUS;
     }
     high.wrapping_mul(65_536).wrapping_add(low)
 }
