@@ -14,7 +14,8 @@ overlapping =
 abbrev pub with_gap : Code
 with_gap =
     playing
-    (number (pos 100000) ∷ number (pos 4000) ∷ constant 0 1 ∷ number (pos 500000) ∷ sustained 3 2 ∷ number (pos 200000) ∷ number (pos 2000) ∷ constant 5 6 ∷ in_turn (4 ∷ 7 ∷ []) ∷ [])
+    (number (pos 100000) ∷ number (pos 4000) ∷ constant 0 1 ∷ number (pos 500000) ∷ sustained 3 2 ∷ number (pos 200000) ∷ number (pos 2000) ∷ constant 5 6
+    ∷ in_turn (4 ∷ 7 ∷ []) ∷ [])
 
 -- `seq(osc(69, 0.001), osc(69, 0.001))`
 abbrev pub waves_in_turn : Code
