@@ -45,7 +45,7 @@ pub fn rest_timing(env: &Env, d: Fix) -> Timing
 
 /// When the cue of a sound with this timing is heard.
 #[tactic(auto, unfolding(ny_check::specs::Behaviours::cue_timing, ny_num::specs::Numbers::sat))]
-pub(crate) fn cue_timing(env: &Env, t: &Timing) -> Timing
+pub fn cue_timing(env: &Env, t: &Timing) -> Timing
     requires { IsTiming t.now }
     ensures value { result ≡ cue_timing env.now t.now }
     ensures bounds { IsTiming result }

@@ -11,7 +11,9 @@ mod names;
 mod rules;
 
 pub use entry::{channel_timings, timing};
-pub use leaves::{envelope_end, leaf_time, plain_timing, rest_timing, sustained_timing};
+pub use leaves::{
+    cue_timing, envelope_end, leaf_time, plain_timing, rest_timing, sustained_timing,
+};
 pub use rules::{
     channel_timing, cued_timing, leaf_timing, mix_timing, pair_timing, placed_timing,
     product_timing, resampled_timing, spanning, sum_timing,
