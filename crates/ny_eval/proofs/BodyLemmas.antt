@@ -27,7 +27,7 @@ use Rattle.ny_eval.specs.Framed.{FrameState, names_in, HasGrown, AreBound, ArePa
 
 -- ---- lists
 
-drop_first : {A : Type 0} (xs ys : List A) → drop (length xs) (xs ++ ys) ≡ ys
+pub drop_first : {A : Type 0} (xs ys : List A) → drop (length xs) (xs ++ ys) ≡ ys
 drop_first [] ys = refl
 drop_first (x ∷ xs) ys = drop_first xs ys
 

@@ -8,6 +8,8 @@ use Rattle.std.proofs.lemmas.List.{get_or_past, drop_more}
 use Rattle.std.proofs.Math.ListN.{drop_of_length-le}
 use Rattle.std.proofs.lemmas.List.FromFn.{get_or-map-range_with_len, length-map-range_with_len, map-range_with_len_more}
 use Rattle.ny_kernels.specs.declared.operation.Op.{Op}
+use Rattle.ny_resolve.specs.declared.builtin.Order.{Order}
+use Rattle.ny_resolve.specs.declared.builtin.Order.TheVariants as order
 use Rattle.ny_resolve.specs.declared.term.NameId.{NameId}
 use Rattle.ny_check.specs.Code.{Code, node_at, function_at}
 use Rattle.ny_check.specs.Recursion.{below}
@@ -18,7 +20,7 @@ use Rattle.ny_check.specs.declared.node.Effect.{Effect}
 use Rattle.ny_check.specs.declared.node.ExprId.{ExprId}
 use Rattle.ny_check.specs.declared.node.FunctionId.{FunctionId}
 use Rattle.ny_check.proofs.Smaller.{by_smaller-is}
-use Rattle.ny_eval.specs.Built.{all_built, binds_built, AreBuilt, AreBindsBuilt, change_built, built_node, built, is_built}
+use Rattle.ny_eval.specs.Built.{all_built, binds_built, AreBuilt, AreBindsBuilt, change_built, is_together, built_node, built, is_built}
 
 -- ---- a table
 
@@ -139,6 +141,10 @@ parts_bound_built code n (b ∷ bs) more e =
     let both = both_true (below n false (built code) b.1.0) (binds_built bs (below n false (built code)) more) e in
     ((part_built n b.1.0 (built code) both.0).1, parts_bound_built code n bs more both.1)
 
+pub together_is : (o : Order) → is_together o ≡ true → o ≡ order.Together
+together_is order.Together is = refl
+together_is order.InTurn is = not_built is
+
 module _ (code : Code) (e : ℕ) where
   pub built_at : (at : Node) → node_at code e ≡ at → built code e ≡ true → built_node code at (below e false (built code)) ≡ true
   unfolding built
@@ -178,3 +184,16 @@ module _ (code : Code) (e : ℕ) where
 
     pub change_part : (c : Change) (a : ExprId) → here ≡ node.Change c a → built code a.0 ≡ true
     change_part c a is = (part_built e a.0 (built code) (both_true (change_built c (below e false (built code))) (below e false (built code) a.0) (built_at (node.Change c a) (sym found ∙ is) builds)).1).1
+
+    pub cue_part : (a : ExprId) → here ≡ node.Cue a → built code a.0 ≡ true
+    cue_part a is = (part_built e a.0 (built code) (built_at (node.Cue a) (sym found ∙ is) builds)).1
+
+    pub mix_parts : (o : Order) (es : List ExprId) → here ≡ node.Mix o es → (o ≡ order.Together) × AreBuilt code es
+    mix_parts o es is =
+        let all = built_at (node.Mix o es) (sym found ∙ is) builds in
+        (together_is o (more_true es (below e false (built code)) (is_together o) all), parts_built code e es _ all)
+
+    pub repeat_part : (o : Order) (x : NameId) (k : ℕ) (a : ExprId) → here ≡ node.Repeat o x k a → (o ≡ order.Together) × (built code a.0 ≡ true)
+    repeat_part o x k a is =
+        let both = both_true (is_together o) (below e false (built code) a.0) (built_at (node.Repeat o x k a) (sym found ∙ is) builds) in
+        (together_is o both.0, (part_built e a.0 (built code) both.1).1)

@@ -4,6 +4,8 @@ use Rattle.std.proofs.lemmas.List.{append-nil}
 use Rattle.ny_kernels.specs.declared.operation.Op.{Op}
 use Rattle.ny_warp.specs.declared.env.Env.{Env}
 use Rattle.ny_scope.specs.Scopes.{last_of}
+use Rattle.ny_resolve.specs.declared.builtin.Order.{Order}
+use Rattle.ny_resolve.specs.declared.builtin.Order.TheVariants as order
 use Rattle.ny_resolve.specs.declared.term.NameId.{NameId}
 use Rattle.ny_resolve.specs.Keys.{same_name}
 use Rattle.ny_check.specs.declared.node.Node.{Node}
@@ -31,7 +33,7 @@ use Rattle.ny_hands.specs.Hands.{Hand}
 use Rattle.ny_hands.proofs.HandLemmas.{hand_none, hand_more}
 use Rattle.ny_hands.proofs.HeldLemmas.{held_named, names_later}
 use Rattle.ny_eval.specs.Framed.{FrameState, names_in}
-use Rattle.ny_trace.specs.Evaluates.{NameTurn, NodeTurn, IsNoNumber, ValueTurn, JoinTurn, OperationTurn, SignTurn, BlockTurn, CallTurn, LeafTurn, EffectTurn, Evaluates, numbers_in, sounds_of_values}
+use Rattle.ny_trace.specs.Evaluates.{NameTurn, NodeTurn, IsNoNumber, ValueTurn, JoinTurn, OperationTurn, SignTurn, BlockTurn, CallTurn, LeafTurn, EffectTurn, CueTurn, SimTurn, MixTurn, Part, parts_of, counted_parts, Evaluates, numbers_in, sounds_of_values}
 use Rattle.ny_trace.proofs.StepLemmas.{lifted, value_lifted, step_at}
 use Rattle.ny_eval.specs.Built.{built_node, built}
 use Rattle.ny_eval.specs.Values.{number_in}
@@ -124,6 +126,15 @@ module _ (code : Code) (e : ℕ) where
   pub effect_below : (w : Effect) (a : ExprId) (es : List ExprId) (here : Node) → here ≡ node.Effect w a es → IsBelow code.functions e here → a.0 < e
   effect_below w a es here is ordered = (subst (λ n. IsBelow code.functions e n) is ordered).0
 
+  pub cue_below : (a : ExprId) (here : Node) → here ≡ node.Cue a → IsBelow code.functions e here → a.0 < e
+  cue_below a here is ordered = subst (λ n. IsBelow code.functions e n) is ordered
+
+  pub mix_below : (o : Order) (es : List ExprId) (here : Node) → here ≡ node.Mix o es → IsBelow code.functions e here → AllBelow e es
+  mix_below o es here is ordered = subst (λ n. IsBelow code.functions e n) is ordered
+
+  pub repeat_below : (o : Order) (x : NameId) (k : ℕ) (a : ExprId) (here : Node) → here ≡ node.Repeat o x k a → IsBelow code.functions e here → a.0 < e
+  repeat_below o x k a here is ordered = subst (λ n. IsBelow code.functions e n) is ordered
+
   pub choice_below : (c a b : ExprId) (t : Bool) (part : ℕ) (here : Node) → here ≡ node.If c a b → IsBelow code.functions e here → part ≡ (if t then a.0 else b.0) → part < e
   choice_below c a b t part here is ordered one = subst (λ k. k < e) (sym one) (by_choice t (subst (λ n. IsBelow code.functions e n) is ordered).1 (subst (λ n. IsBelow code.functions e n) is ordered).2)
     where
@@ -176,6 +187,22 @@ module _ (code : Code) (e : ℕ) (here : Node) (env : Env) (names : Names) (old 
       step_at code e here env names old new s found (node.Effect w a es) is
       (subst (λ xs. EffectTurn (Evaluates code e) w a (numbers_in code names xs) env names old new s) same (turn e under.0))
 
+  pub cue_arm : (a : ExprId) → here ≡ node.Cue a → ((n : ℕ) → a.0 < n → CueTurn (Evaluates code n) a env names old new s) → Evaluates code (e + 1) e env names old new s
+  cue_arm a is turn = step_at code e here env names old new s found (node.Cue a) is (turn e (subst (λ n. IsBelow code.functions e n) is ordered))
+
+  -- parts together
+  as_mix : (o : Order) (ps : List Part) → o ≡ order.Together → SimTurn (Evaluates code e) ps env old new s → MixTurn (Evaluates code e) code e o ps env names old new s
+  as_mix o ps so turn = subst (λ (q : Order). MixTurn (Evaluates code e) code e q ps env names old new s) (sym so) turn
+
+  -- its parts stand in a slice
+  pub mix_arm : (o : Order) (es slice : List ExprId) → here ≡ node.Mix o es → slice ≡ es → o ≡ order.Together → SimTurn (Evaluates code e) (parts_of names slice) env old new s → Evaluates code (e + 1) e env names old new s
+  mix_arm o es slice is same so turn =
+      step_at code e here env names old new s found (node.Mix o es) is
+      (as_mix o (parts_of names es) so (subst (λ xs. SimTurn (Evaluates code e) (parts_of names xs) env old new s) same turn))
+
+  pub repeat_arm : (o : Order) (x : NameId) (k : ℕ) (a : ExprId) → here ≡ node.Repeat o x k a → o ≡ order.Together → SimTurn (Evaluates code e) (counted_parts names x k a) env old new s → Evaluates code (e + 1) e env names old new s
+  repeat_arm o x k a is so turn = step_at code e here env names old new s found (node.Repeat o x k a) is (as_mix o (counted_parts names x k a) so turn)
+
   pub choice_arm : (c a b : ExprId) (t : Bool) (part : ℕ) → here ≡ node.If c a b → t ≡ test_of code c (scalars_of names) → part ≡ (if t then a.0 else b.0) → Evaluates code (part + 1) part env names old new s → Evaluates code (e + 1) e env names old new s
   choice_arm c a b t part is holds one turn =
       let less = choice_below code e c a b t part here is ordered one in
@@ -191,7 +218,7 @@ module _ (code : Code) (e : ℕ) (here : Node) (env : Env) (names : Names) (old 
       (lifted code (a.0 + 1) e a.0 changed names old new s (omega (arith, under.1)) turn))
 
   -- what else can be played is a number or a test
-  module _ (not_local : (x : NameId) → here ≡ node.Local x → ⊥) (not_call : (f : FunctionId) (es : List ExprId) → here ≡ node.Call f es → ⊥) (not_block : (bs : List (NameId × ExprId)) (a : ExprId) → here ≡ node.Block bs a → ⊥) (not_pair : (op : Op) (a b : ExprId) → here ≡ node.Pair op a b → ⊥) (not_neg : (a : ExprId) → here ≡ node.Neg a → ⊥) (not_leaf : (w : Generator) (es : List ExprId) → here ≡ node.Leaf w es → ⊥) (not_effect : (w : Effect) (part : ExprId) (es : List ExprId) → here ≡ node.Effect w part es → ⊥) (not_if : (c a b : ExprId) → here ≡ node.If c a b → ⊥) (not_change : (c : Change) (a : ExprId) → here ≡ node.Change c a → ⊥) (silent : IsSilent old new env.sound_rate s) where
+  module _ (not_local : (x : NameId) → here ≡ node.Local x → ⊥) (not_call : (f : FunctionId) (es : List ExprId) → here ≡ node.Call f es → ⊥) (not_block : (bs : List (NameId × ExprId)) (a : ExprId) → here ≡ node.Block bs a → ⊥) (not_pair : (op : Op) (a b : ExprId) → here ≡ node.Pair op a b → ⊥) (not_neg : (a : ExprId) → here ≡ node.Neg a → ⊥) (not_leaf : (w : Generator) (es : List ExprId) → here ≡ node.Leaf w es → ⊥) (not_effect : (w : Effect) (part : ExprId) (es : List ExprId) → here ≡ node.Effect w part es → ⊥) (not_if : (c a b : ExprId) → here ≡ node.If c a b → ⊥) (not_cue : (a : ExprId) → here ≡ node.Cue a → ⊥) (not_mix : (o : Order) (es : List ExprId) → here ≡ node.Mix o es → ⊥) (not_repeat : (o : Order) (x : NameId) (k : ℕ) (a : ExprId) → here ≡ node.Repeat o x k a → ⊥) (not_change : (c : Change) (a : ExprId) → here ≡ node.Change c a → ⊥) (silent : IsSilent old new env.sound_rate s) where
     silent_turn : (known : ℕ → Bool) (at : Node) → here ≡ at → built_node code at known ≡ true → NodeTurn (Evaluates code e) code e at env names old new s
     silent_turn known (node.Number v) is builds = silent
     silent_turn known (node.Local x) is builds = absurd (not_local x is)
@@ -208,9 +235,9 @@ module _ (code : Code) (e : ℕ) (here : Node) (env : Env) (names : Names) (old 
     silent_turn known (node.If c a b) is builds = absurd (not_if c a b is)
     silent_turn known (node.Leaf w es) is builds = absurd (not_leaf w es is)
     silent_turn known (node.Effect w a es) is builds = absurd (not_effect w a es is)
-    silent_turn known (node.Cue a) is builds = not_built builds
-    silent_turn known (node.Mix o es) is builds = not_built builds
-    silent_turn known (node.Repeat o x k a) is builds = not_built builds
+    silent_turn known (node.Cue a) is builds = absurd (not_cue a is)
+    silent_turn known (node.Mix o es) is builds = absurd (not_mix o es is)
+    silent_turn known (node.Repeat o x k a) is builds = absurd (not_repeat o x k a is)
     silent_turn known (node.Change c a) is builds = absurd (not_change c a is)
     silent_turn known (node.Vector es) is builds = not_built builds
 

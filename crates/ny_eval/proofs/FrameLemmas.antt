@@ -1,7 +1,6 @@
 -- Where the names of a frame stand.
 use Rattle.std.proofs.Common.{◌≡◌, ℕ, zero, suc, ◌+◌, ◌-◌, ◌<◌, ◌≤◌, Bool, true, false, cond, List, [], ◌∷◌, ◌++◌, length, get_or, take, drop, reverse, Option, Some, None, refl, sym, ap, subst, ◌∙◌, arith}
 use Rattle.std.specs.Map.{lookup}
-use Rattle.std.specs.Option.{option_map}
 use Rattle.std.proofs.lemmas.List.{reverse-append, append_assoc, length-append, length-take, take_more, drop_more, drop-set-lt, take-set-le}
 use Rattle.std.proofs.Math.ListN.{set}
 use Rattle.ny_scope.specs.Scopes.{last_of}
@@ -10,8 +9,7 @@ use Rattle.ny_check.specs.declared.value.Value.{Value}
 use Rattle.ny_check.specs.Values.{Scalars, scalars_of, scalar_in}
 use Rattle.ny_check.specs.declared.value.Scalar.{Scalar}
 use Rattle.ny_heap.specs.declared.sound.Sound.{Sound}
-use Rattle.ny_heap.specs.Heap.{HeapState, place_of}
-use Rattle.ny_heap.specs.Steps.{IsHeldSound}
+use Rattle.ny_heap.specs.Heap.{HeapState}
 use Rattle.ny_hands.specs.Calls.{ReleasesAll}
 use Rattle.ny_hands.specs.Frames.{Names, AllHeld, IsHeldValue, sounds_among}
 use Rattle.ny_hands.specs.Hands.{InHand}

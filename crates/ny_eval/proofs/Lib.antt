@@ -17,3 +17,6 @@ pub mod ChannelLemmas
 pub mod FrameLemmas
 pub mod RankLemmas
 pub mod BodyLemmas
+pub mod CueLemmas
+pub mod MixingLemmas
+pub mod PartLemmas

@@ -1,6 +1,7 @@
 -- The laws of a trace of what can be played: no sequence is met, so none of its parts keeps names.
-use Rattle.std.proofs.Common.{◌≡◌, inl, inr, ℕ, zero, suc, ◌+◌, ◌≤◌, Bool, true, false, if◌then◌else◌, max, List, [], ◌∷◌, ◌++◌, length, take, Option, None, Some, refl, sym, ap, subst, ◌∙◌, arith, pos}
+use Rattle.std.proofs.Common.{◌≡◌, inl, inr, ℕ, zero, suc, ◌+◌, ◌≤◌, Bool, true, false, if◌then◌else◌, max, List, [], ◌∷◌, ◌++◌, length, take, map, Option, None, Some, refl, sym, ap, subst, ◌∙◌, arith, ℤ, pos}
 use Rattle.std.specs.Prelude.{◌&&◌, zip}
+use Rattle.std.specs.List.{range_with_len}
 use Rattle.std.proofs.lemmas.Bool.{cases_eq}
 use Rattle.ny_num.specs.declared.rate.Rate.{Rate}
 use Rattle.ny_num.specs.declared.timing.Timing.{Timing}
@@ -15,8 +16,11 @@ use Rattle.ny_check.specs.declared.node.ExprId.{ExprId}
 use Rattle.ny_check.specs.declared.value.Value.{Value}
 use Rattle.ny_check.specs.declared.value.Value.TheVariants.{Number, Sound as SoundOf}
 use Rattle.ny_check.specs.Code.{Code, node_at as node_in, function_at, IsOrdered}
+use Rattle.ny_resolve.specs.declared.builtin.Order.{Order}
+use Rattle.ny_resolve.specs.declared.builtin.Order.TheVariants as order
 use Rattle.ny_resolve.specs.declared.term.NameId.{NameId}
 use Rattle.ny_check.specs.Values.{scalars_of, number_of, test_of}
+use Rattle.ny_check.specs.Behaviours.{is_one, cue_timing}
 use Rattle.ny_check.specs.Families.{changed_env}
 use Rattle.ny_check.specs.Recursion.{below}
 use Rattle.ny_check.specs.Meaning.{Bound, meaning, sound_node}
@@ -26,22 +30,22 @@ use Rattle.ny_heap.specs.Heap.{Kind, Node, HeapState, node_at}
 use Rattle.ny_heap.specs.Reach.{IsTrimmed}
 use Rattle.ny_heap.specs.Steps.{without_sounds, new_node}
 use Rattle.ny_hands.specs.declared.branch.Branch.{Branch}
-use Rattle.ny_hands.specs.Calls.{MakesUnit, ReleasesAll, Brings, Stay, Change}
+use Rattle.ny_hands.specs.Calls.{MakesUnit, ReleasesAll, Brings, Stay, Change, BringsEach}
 use Rattle.ny_hands.specs.Frames.{Names, bound_in, part_is, sounds_among}
 use Rattle.ny_hands.proofs.OptionLemmas.{same_at}
 use Rattle.ny_hands.proofs.HeapLemmas.{Length, Empty, Long, length_of}
 use Rattle.ny_hands.proofs.MarkLemmas.{spent_like}
 use Rattle.ny_hands.proofs.ComingLemmas.{comes_as}
-use Rattle.ny_trace.specs.Evaluates.{Trace, NameTurn, NodeTurn, JoinTurn, ValueTurn, BindsTurn, ValuesTurn, sounds_of_values, Evaluates}
+use Rattle.ny_trace.specs.Evaluates.{Trace, Part, parts_of, counted_names, counted_parts, LouderTurn, NameTurn, NodeTurn, JoinTurn, ValueTurn, BindsTurn, ValuesTurn, PartsTurn, MixTurn, sounds_of_values, Evaluates}
 use Rattle.ny_trace.specs.Laws.{KeepFree, in_turn, IsLawful}
 use Rattle.ny_trace.specs.Heights.{greatest, one_on_another, tall_node, IsTall, IsRising}
 use Rattle.ny_check.specs.Heights.{greatest as greatest_of, one_on_another as one_on_another_of, height_node, IsTall as LeavesRoom}
 use Rattle.ny_trace.proofs.EvaluationLemmas.{node_gives}
 use Rattle.ny_trace.proofs.HeightLemmas.{ComesFrom, from_trimmed, stands_wider}
-use Rattle.ny_trace.proofs.RisingSeqLemmas.{from_shared}
+use Rattle.ny_trace.proofs.RisingSeqLemmas.{from_shared, from_placed}
 use Rattle.ny_trace.proofs.RisingEvaluationLemmas.{node_stands}
 use Rattle.ny_eval.specs.Below.{IsSettled}
-use Rattle.ny_eval.specs.Built.{change_built, built_node, built, AreBuilt, AreBindsBuilt}
+use Rattle.ny_eval.specs.Built.{change_built, is_together, built_node, built, AreBuilt, AreBindsBuilt}
 use Rattle.ny_eval.proofs.BuiltLemmas.{both_true, more_true, binds_more_true, not_built, part_built, parts_built, parts_bound_built, built_at}
 
 -- a trace of what can be played
@@ -69,6 +73,33 @@ played_values code n env names (suc k) [] old new (v ∷ vs) are step = absurd s
 played_values code n env names (suc k) (e ∷ es) old new [] are step = absurd step
 played_values code n env names (suc k) (e ∷ es) old new (v ∷ vs) are step =
     (step.0, played_value code n env names e old step.0 v are.0 step.1, played_values code n env names k es step.0 new vs are.1 step.2)
+
+-- the expressions of these parts can be played
+abbrev ArePartsBuilt : Code → List Part → Type 0
+ArePartsBuilt code [] = Unit {0}
+ArePartsBuilt code (p ∷ ps) = (built code p.0.0 ≡ true) × ArePartsBuilt code ps
+
+listed_built : (code : Code) (names : Names) (es : List ExprId) → AreBuilt code es → ArePartsBuilt code (parts_of names es)
+listed_built code names [] are = tt
+listed_built code names (e ∷ es) are = (are.0, listed_built code names es are.1)
+
+counted_built : (code : Code) (names : Names) (i : NameId) (count : ℕ) (e : ExprId) → built code e.0 ≡ true → ArePartsBuilt code (counted_parts names i count e)
+counted_built code names i count e is = each (range_with_len 0 count)
+  where
+    each : (ks : List ℕ) → ArePartsBuilt code (map (λ k. let p : Part = (e, counted_names names i k) in p) ks)
+    each [] = tt
+    each (k ∷ ks) = (is, each ks)
+
+played_parts : (code : Code) (n : ℕ) (env : Env) (ps : List Part) (old new : HeapState Branch) (ss : List Sound) → ArePartsBuilt code ps → PartsTurn (Evaluates code n) env ps old new ss → PartsTurn (Played code n) env ps old new ss
+played_parts code n env [] old new [] are step = step
+played_parts code n env [] old new (s ∷ ss) are step = absurd step
+played_parts code n env (p ∷ ps) old new [] are step = absurd step
+played_parts code n env (p ∷ ps) old new (s ∷ ss) are step = (step.0, (are.0, step.1), played_parts code n env ps step.0 new ss are.1 step.2)
+
+-- parts that can be played are so together
+played_mix : (code : Code) (n e : ℕ) (o : Order) (ps : List Part) (env : Env) (names : Names) (old new : HeapState Branch) (s : Sound) → is_together o ≡ true → ArePartsBuilt code ps → MixTurn (Evaluates code n) code e o ps env names old new s → MixTurn (Played code n) code e o ps env names old new s
+played_mix code n e order.Together ps env names old new s is are step = record { parts = step.parts; mid = step.mid; each = played_parts code n env ps old step.mid step.parts are step.each; mixed = step.mixed }
+played_mix code n e order.InTurn ps env names old new s is are step = not_built is
 
 module _ (code : Code) (n e : ℕ) (env : Env) (names : Names) (old new : HeapState Branch) (s : Sound) where
   played_node : (at : NodeOf) → built_node code at (below e false (built code)) ≡ true → NodeTurn (Evaluates code n) code e at env names old new s → NodeTurn (Played code n) code e at env names old new s
@@ -123,9 +154,12 @@ module _ (code : Code) (n e : ℕ) (env : Env) (names : Names) (old new : HeapSt
   played_node (node.Effect w a es) is step =
       let part = (part_built e a.0 (built code) (more_true es (below e false (built code)) (below e false (built code) a.0) is)).1 in
       record { part = step.part; mid = step.mid; evaluates = (part, step.evaluates); unit = step.unit; is = step.is; made = step.made }
-  played_node (node.Cue a) is step = not_built is
-  played_node (node.Mix o es) is step = not_built is
-  played_node (node.Repeat o x k a) is step = not_built is
+  played_node (node.Cue a) is step = record { part = step.part; mid = step.mid; evaluates = ((part_built e a.0 (built code) is).1, step.evaluates); cued = step.cued }
+  played_node (node.Mix o es) is step =
+      played_mix code n e o (parts_of names es) env names old new s (more_true es (below e false (built code)) (is_together o) is) (listed_built code names es (parts_built code e es _ is)) step
+  played_node (node.Repeat o x k a) is step =
+      let both = both_true (is_together o) (below e false (built code) a.0) is in
+      played_mix code n e o (counted_parts names x k a) env names old new s both.0 (counted_built code names x k a (part_built e a.0 (built code) both.1).1) step
   played_node (node.Change c a) is step = ((part_built e a.0 (built code) (both_true (change_built c (below e false (built code))) (below e false (built code) a.0) is).1).1, step)
   played_node (node.Vector es) is step = not_built is
 
@@ -133,8 +167,10 @@ module _ (code : Code) (n e : ℕ) (env : Env) (names : Names) (old new : HeapSt
 
 -- no part waits, so no names are kept
 played_free : (code : Code) (at : NodeOf) (known : ℕ → Bool) → built_node code at known ≡ true → KeepFree code (in_turn at)
-played_free code (node.Mix o es) known is = not_built is
-played_free code (node.Repeat o i k a) known is = not_built is
+played_free code (node.Mix order.Together es) known is = tt
+played_free code (node.Mix order.InTurn es) known is = not_built (more_true es known false is)
+played_free code (node.Repeat order.Together i k a) known is = tt
+played_free code (node.Repeat order.InTurn i k a) known is = not_built is
 played_free code _ known is = tt
 
 pub played_lawful : (code : Code) → IsOrdered code → (n : ℕ) → IsLawful code (Played code n)
@@ -226,6 +262,16 @@ pub settled_brought : (mid new : HeapState Branch) (r : Rate) (a s : Sound) → 
 settled_brought mid new r a s (Stay step) all = subst (λ (h : HeapState Branch). IsSettled h) step.heap all
 settled_brought mid new r a s (Change step) all = settled_made mid new _ _ (a ∷ []) (a ∷ []) s step.made all
 
+settled_each_brought : (mid new : HeapState Branch) (r : Rate) (ss ts : List Sound) → BringsEach mid new r ss ts → IsSettled mid → IsSettled new
+settled_each_brought mid new r [] [] step all = subst (λ (h : HeapState Branch). IsSettled h) step all
+settled_each_brought mid new r [] (t ∷ ts) step all = absurd step
+settled_each_brought mid new r (s ∷ ss) [] step all = absurd step
+settled_each_brought mid new r (s ∷ ss) (t ∷ ts) step all = settled_each_brought step.0 new r ss ts step.2 (settled_brought mid step.0 r s t step.1 all)
+
+settled_louder : (old new : HeapState Branch) (is : Bool) (loud : ℤ) (a s : Sound) → LouderTurn is loud a old new s → IsSettled old → IsSettled new
+settled_louder old new true loud a s step all = subst (λ (h : HeapState Branch). IsSettled h) step.0 all
+settled_louder old new false loud a s step all = settled_made old new _ _ (a ∷ []) (a ∷ []) s step all
+
 settled_join : (op : Op) (r : Rate) (x y : Value Sound) (old new : HeapState Branch) (s : Sound) → JoinTurn op r x y old new s → IsSettled old → IsSettled new
 settled_join op r (Number j) (Number k) old new s step all = settled_made old new _ _ [] [] s step all
 settled_join op r (Number j) (SoundOf b) old new s step all = settled_made step.mid new _ _ (step.brought ∷ []) (step.brought ∷ []) s step.made (settled_brought old step.mid r b step.brought step.brings all)
@@ -255,6 +301,18 @@ module _ (code : Code) (D : Trace) (quiet : IsQuiet D) where
   settled_values env names (e ∷ es) old new [] step all = absurd step
   settled_values env names (e ∷ es) old new (v ∷ vs) step all = settled_values env names es step.0 new vs step.2 (settled_value env names e old step.0 v step.1 all)
 
+  settled_parts : (env : Env) (ps : List Part) (old new : HeapState Branch) (ss : List Sound) → PartsTurn D env ps old new ss → IsSettled old → IsSettled new
+  settled_parts env [] old new [] step all = subst (λ (h : HeapState Branch). IsSettled h) step all
+  settled_parts env [] old new (s ∷ ss) step all = absurd step
+  settled_parts env (p ∷ ps) old new [] step all = absurd step
+  settled_parts env (p ∷ ps) old new (s ∷ ss) step all = settled_parts env ps step.0 new ss step.2 (quiet p.0.0 env p.1 old step.0 s step.1 all)
+
+  settled_mix : (e : ℕ) (o : Order) (ps : List Part) (env : Env) (names : Names) (old new : HeapState Branch) (s : Sound) → is_together o ≡ true → MixTurn D code e o ps env names old new s → IsSettled old → IsSettled new
+  settled_mix e order.Together ps env names old new s is step all =
+      settled_made step.mixed.mid new _ _ step.mixed.brought step.mixed.brought s step.mixed.made
+      (settled_each_brought step.mid step.mixed.mid env.sound_rate step.parts step.mixed.brought step.mixed.brings (settled_parts env ps old step.mid step.parts step.each all))
+  settled_mix e order.InTurn ps env names old new s is step all = not_built is
+
   settled_node : (e : ℕ) (at : NodeOf) (known : ℕ → Bool) (env : Env) (names : Names) (old new : HeapState Branch) (s : Sound) → built_node code at known ≡ true → NodeTurn D code e at env names old new s → IsSettled old → IsSettled new
   settled_node e (node.Number v) known env names old new s is step all = settled_made old new _ _ [] [] s step all
   settled_node e (node.Local x) known env names old new s is step all = by_found (last_of (same_name x) names) step
@@ -280,9 +338,12 @@ module _ (code : Code) (D : Trace) (quiet : IsQuiet D) where
   settled_node e (node.If c a b) known env names old new s is step all = quiet (if test_of code c (scalars_of names) then a.0 else b.0) env names old new s step all
   settled_node e (node.Leaf w es) known env names old new s is step all = settled_made old new _ _ [] [] s step.made all
   settled_node e (node.Effect w a es) known env names old new s is step all = settled_made step.mid new _ _ (step.part ∷ []) (step.part ∷ []) s step.made (quiet a.0 env names old step.mid step.part step.evaluates all)
-  settled_node e (node.Cue a) known env names old new s is step all = not_built is
-  settled_node e (node.Mix o es) known env names old new s is step all = not_built is
-  settled_node e (node.Repeat o x k a) known env names old new s is step all = not_built is
+  settled_node e (node.Cue a) known env names old new s is step all =
+      settled_louder step.cued.mid new (is_one env.loud) env.loud step.cued.later s step.cued.louder
+      (settled_from step.mid step.cued.mid (from_placed step.mid step.cued.mid (cue_timing env) step.part step.cued.later step.cued.places) (quiet a.0 env names old step.mid step.part step.evaluates all))
+  settled_node e (node.Mix o es) known env names old new s is step all = settled_mix e o (parts_of names es) env names old new s (more_true es known (is_together o) is) step all
+  settled_node e (node.Repeat o x k a) known env names old new s is step all =
+      settled_mix e o (counted_parts names x k a) env names old new s (both_true (is_together o) (known a.0) is).0 step all
   settled_node e (node.Change c a) known env names old new s is step all = quiet a.0 (changed_env c (λ k. number_of code k (scalars_of names)) env) names old new s step all
   settled_node e (node.Vector es) known env names old new s is step all = not_built is
 

@@ -1,12 +1,12 @@
 -- Units stand no higher above one another than there are places for units.
-use Rattle.std.proofs.Common.{◌≡◌, ℕ, zero, suc, ◌+◌, ◌<◌, ◌≤◌, Bool, true, false, nat_lt, length, Option, None, Some, IsSomeAnd, IsTrue, refl, sym, ap, arith}
+use Rattle.std.proofs.Common.{◌≡◌, ℕ, zero, suc, ◌+◌, ◌<◌, ◌≤◌, Bool, true, false, nat_lt, length, IsSomeAnd, IsTrue, refl, ap, arith}
 use Rattle.std.proofs.lemmas.Bool.{lt-ltb, ltb-true, ltb-false}
-use Rattle.ny_heap.specs.Heap.{Node, HeapState, node_at, is_open}
-use Rattle.ny_heap.specs.Reach.{Uses, HeapLaws}
+use Rattle.ny_heap.specs.Heap.{HeapState, node_at, is_open}
+use Rattle.ny_heap.specs.Reach.{HeapLaws}
 use Rattle.ny_hands.proofs.OptionLemmas.{some_there}
 use Rattle.ny_hands.proofs.HeapLemmas.{there_within}
-use Rattle.ny_eval.specs.Below.{IsRank, IsRanked}
-use Rattle.ny_eval.proofs.BelowLemmas.{some_and, user_there}
+use Rattle.ny_eval.specs.Below.{IsRanked}
+use Rattle.ny_eval.proofs.BelowLemmas.{some_and}
 
 abbrev one_if : Bool → ℕ
 one_if true = 1

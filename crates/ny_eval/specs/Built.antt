@@ -1,5 +1,5 @@
--- Which expressions can be played yet: all but `cue`, the four combinations of parts, and `vector`. A call can be played where the
--- body of its function can. A global variable is a number, whatever it is made of.
+-- Which expressions can be played yet: all but parts one after another, and `vector`. A call can be played where the body of its
+-- function can. A global variable is a number, whatever it is made of.
 use Rattle.std.specs.Prelude.{◌≡◌, ℕ, Bool, true, false, ◌&&◌, List, [], ◌∷◌}
 use Rattle.ny_check.specs.declared.node.Node.{Node}
 use Rattle.ny_check.specs.declared.node.Node.TheVariants as node
@@ -7,6 +7,8 @@ use Rattle.ny_check.specs.declared.node.Change.{Change}
 use Rattle.ny_check.specs.declared.node.Change.TheVariants as change
 use Rattle.ny_check.specs.declared.node.ExprId.{ExprId}
 use Rattle.ny_check.specs.Code.{Code, node_at, function_at}
+use Rattle.ny_resolve.specs.declared.builtin.Order.{Order}
+use Rattle.ny_resolve.specs.declared.builtin.Order.TheVariants as order
 use Rattle.ny_resolve.specs.declared.term.NameId.{NameId}
 use Rattle.ny_check.specs.Recursion.{by_smaller}
 
@@ -26,6 +28,11 @@ change_built (change.By t k) rec = rec k.0
 change_built (change.Warp m) rec = true
 change_built (change.Rate rated r) rec = true
 
+-- parts can be played together, and not yet one after another
+abbrev pub is_together : Order → Bool
+is_together order.Together = true
+is_together order.InTurn = false
+
 -- Whether a node can be played, of which nodes before it can: one of the forms that are played, over parts that can be played.
 abbrev pub built_node : Code → Node → (ℕ → Bool) → Bool
 built_node code (node.Number v) rec = true
@@ -43,6 +50,9 @@ built_node code (node.Not a) rec = rec a.0
 built_node code (node.If c a b) rec = rec c.0 && (rec a.0 && rec b.0)
 built_node code (node.Leaf w es) rec = all_built es rec true
 built_node code (node.Effect w e es) rec = all_built es rec (rec e.0)
+built_node code (node.Cue e) rec = rec e.0
+built_node code (node.Mix o es) rec = all_built es rec (is_together o)
+built_node code (node.Repeat o x k e) rec = is_together o && rec e.0
 built_node code (node.Change c e) rec = change_built c rec && rec e.0
 built_node code _ rec = false
 

@@ -2,8 +2,10 @@ pub mod Below
 pub mod Built
 pub mod Framed
 pub mod Knots
+pub mod Mixing
 pub mod Opened
 pub mod Order
+pub mod Parts
 pub mod Playing
 pub mod Shapes
 pub mod Values

@@ -1,4 +1,4 @@
-ghost use Rattle.std.specs.Prelude.{◌≡◌, ℕ, ◌+◌, ◌*◌, ◌<◌, ◌≤◌, max, length, take, true, if◌then◌else◌, [], ◌∷◌, IfOk, OnErr, OnOk};
+ghost use Rattle.std.specs.Prelude.{◌≡◌, ℕ, ◌+◌, ◌*◌, ◌<◌, ◌≤◌, max, length, take, true, if◌then◌else◌, [], ◌∷◌, IfOk, OnErr, OnOk, vec_capacity};
 ghost use Rattle.ny_check.specs.Code.{AllBelow, BindsBelow, IsChangeBelow, function_at};
 ghost use Rattle.ny_check.specs.Families.{changed_env};
 ghost use Rattle.ny_check.specs.Values.{scalars_of, number_of};
@@ -7,15 +7,19 @@ ghost use Rattle.ny_check.specs.Meaning.{meaning};
 ghost use Rattle.ny_eval.specs.Below.{IsSettled};
 ghost use Rattle.ny_eval.specs.Built.{built, AreBuilt, AreBindsBuilt};
 ghost use Rattle.ny_eval.specs.Framed.{names_in, HasGrown, AreBound, ArePassed};
+ghost use Rattle.ny_eval.specs.Parts.{count_in, parts_in, part_at, AreBelow, CanBePlayed};
 ghost use Rattle.ny_hands.specs.Frames.{AllHeld, bound_in, part_is, sounds_among};
 ghost use Rattle.ny_hands.specs.Hands.{Hand, Comes, item};
 ghost use Rattle.ny_trace.specs.Heights.{Ranks, AreLow, Stands};
-ghost use Rattle.ny_trace.specs.Evaluates.{Evaluates, ValueTurn, OperationTurn, SignTurn, EffectTurn, BlockTurn, CallTurn, numbers_in};
+ghost use Rattle.ny_trace.specs.Evaluates.{Evaluates, ValueTurn, OperationTurn, SignTurn, EffectTurn, BlockTurn, CallTurn, CueTurn, PartsTurn, SimTurn, numbers_in};
 
+use crate::cue::cued;
 use crate::filter::make_of;
 use crate::frame::Frame;
 use crate::leaf::{lawful, make_leaf, silent};
+use crate::mixing::{give_up_all, mixed};
 use crate::name::named;
+use crate::parts::{Parts, expr_at, turn_number};
 use crate::unit::{give_up, joined, single};
 use crate::values::{no_names, number_in, numbers};
 use ny_check::changes::{change_by, change_rate};
@@ -25,6 +29,7 @@ use ny_heap::{Heap, Op, Sound};
 use ny_num::Fix;
 use ny_warp::Env;
 use std::alloc::{AllocError, Global};
+use std::collections::VecDeque;
 
 /// Changes an environment.
 ///
@@ -107,6 +112,15 @@ fn evaluate(
                 frame,
                 heap,
             )?)
+        }
+        Node::Cue(part) => Ok(cue(alloc, p, *part, env, frame, heap)?),
+        Node::Mix(_, parts) => {
+            let listed = Parts::Listed(parts.as_slice());
+            Ok(together(alloc, p, e, listed, env, frame, heap)?)
+        }
+        Node::Repeat(_, i, count, part) => {
+            let counted = Parts::Counted(*i, *count, *part);
+            Ok(together(alloc, p, e, counted, env, frame, heap)?)
         }
         Node::If(c, a, b) => {
             let part = chosen(frame.test(alloc, p, *c)?, *a, *b);
@@ -244,6 +258,137 @@ fn affected(
     let sound = evaluate(alloc, p, part, env, frame, heap)?;
     let make = make_of(effect, numbers.as_slice(), sound.timing.rate);
     Ok(single(alloc, make, sound, heap)?)
+}
+
+/// A cue of the sound of an expression, in an environment.
+///
+/// # Errors
+/// `AllocError` where memory is missing. The heap is then as before.
+#[cycle(evaluate)]
+fn cue(
+    alloc: Global,
+    p: &Program,
+    part: ExprId,
+    env: Env,
+    frame: &mut Frame<'_>,
+    heap: &mut Heap<Branch>,
+) -> Result<Sound, AllocError>
+    requires inside { part.0 < length p.now.nodes }
+    requires built { built p.now part.0 ≡ true }
+    requires names { AllHeld heap.old (names_in frame.old) }
+    ensures turn { IfOk result (λ s. (n : ℕ) → part.0 < n → CueTurn (Evaluates p.now n) part env (names_in frame.old) heap.old heap.new s) }
+    ensures same { frame.new ≡ frame.old }
+    ensures refused { OnErr result (Hand heap.old heap.new []) }
+{
+    p.order_law();
+    lawful(heap);
+    let sound = evaluate(alloc, p, part, env.copy(alloc)?, frame, heap)?;
+    Ok(cued(alloc, sound, &env, heap)?)
+}
+
+/// Part `k` of a mix, in an environment.
+///
+/// # Errors
+/// `AllocError` where memory is missing. The heap is then as before.
+#[cycle(evaluate)]
+fn part(
+    alloc: Global,
+    p: &Program,
+    e: ExprId,
+    parts: &Parts<'_>,
+    k: usize,
+    env: Env,
+    frame: &mut Frame<'_>,
+    heap: &mut Heap<Branch>,
+) -> Result<Sound, AllocError>
+    requires inside { e.0 < length p.now.nodes }
+    requires below { AreBelow e.0 parts.now }
+    requires built { CanBePlayed p.now parts.now }
+    requires place { k < count_in parts.now }
+    requires names { AllHeld heap.old (names_in frame.old) }
+    ensures evaluates { IfOk result (λ s. Evaluates p.now e.0 (part_at (names_in frame.old) parts.now k).0.0 env (part_at (names_in frame.old) parts.now k).1 heap.old heap.new s) }
+    ensures same { frame.new ≡ frame.old }
+    ensures refused { OnErr result (Hand heap.old heap.new []) }
+{
+    p.order_law();
+    lawful(heap);
+    match parts {
+        Parts::Listed(listed) => Ok(evaluate(alloc, p, expr_at(listed, k), env, frame, heap)?),
+        Parts::Counted(i, count, counted) => {
+            let before = frame.len();
+            frame.keep(*i, turn_number(k, *count), heap)?;
+            let sound = evaluate(alloc, p, *counted, env, frame, heap);
+            frame.leave(before, heap);
+            sound
+        }
+    }
+}
+
+/// The parts of a mix, the first one first, each in this environment.
+///
+/// # Errors
+/// `AllocError` where memory is missing. Those before are then in hand.
+#[cycle(evaluate)]
+fn each_part(
+    alloc: Global,
+    p: &Program,
+    e: ExprId,
+    parts: &Parts<'_>,
+    env: &Env,
+    frame: &mut Frame<'_>,
+    sounds: &mut Vec<Sound>,
+    heap: &mut Heap<Branch>,
+) -> Result<(), AllocError>
+    requires inside { e.0 < length p.now.nodes }
+    requires below { AreBelow e.0 parts.now }
+    requires built { CanBePlayed p.now parts.now }
+    requires names { AllHeld heap.old (names_in frame.old) }
+    requires none { sounds.old.items ≡ [] }
+    requires room { count_in parts.now ≤ vec_capacity sounds.old }
+    ensures each { OnOk result (PartsTurn (Evaluates p.now e.0) env.now (parts_in (names_in frame.old) parts.now) heap.old heap.new sounds.new.items) }
+    ensures hand { Hand heap.old heap.new sounds.new.items }
+    ensures same { frame.new ≡ frame.old }
+{
+    p.order_law();
+    lawful(heap);
+    for k in 0..parts.count() {
+        let sound = part(alloc, p, e, parts, k, env.copy(alloc)?, frame, heap)?;
+        sounds.push_reserved(sound);
+    }
+    Ok(())
+}
+
+/// Parts together, in an environment.
+///
+/// # Errors
+/// `AllocError` where memory is missing. The heap is then as before.
+#[cycle(evaluate)]
+fn together(
+    alloc: Global,
+    p: &Program,
+    e: ExprId,
+    parts: Parts<'_>,
+    env: Env,
+    frame: &mut Frame<'_>,
+    heap: &mut Heap<Branch>,
+) -> Result<Sound, AllocError>
+    requires inside { e.0 < length p.now.nodes }
+    requires below { AreBelow e.0 parts }
+    requires built { CanBePlayed p.now parts }
+    requires names { AllHeld heap.old (names_in frame.old) }
+    ensures turn { IfOk result (λ s. SimTurn (Evaluates p.now e.0) (parts_in (names_in frame.old) parts.entry) env heap.old heap.new s) }
+    ensures same { frame.new ≡ frame.old }
+    ensures refused { OnErr result (Hand heap.old heap.new []) }
+{
+    lawful(heap);
+    let mut sounds = Vec::with_capacity(alloc, parts.count())?;
+    match each_part(alloc, p, e, &parts, &env, frame, &mut sounds, heap) {
+        Ok(()) => Ok(mixed(alloc, sounds, env.sound_rate, heap)?),
+        Err(fault) => {
+            give_up_all(VecDeque::from(sounds), heap);
+            Err(fault)
+        }
+    }
 }
 
 /// Binds the names of a block, each of which sees those before it.

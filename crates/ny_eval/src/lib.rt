@@ -6,12 +6,15 @@
 
 mod built;
 mod channels;
+mod cue;
 mod envelope;
 mod expression;
 mod filter;
 mod frame;
 mod leaf;
+mod mixing;
 mod name;
+mod parts;
 mod unit;
 mod values;
 mod walk;

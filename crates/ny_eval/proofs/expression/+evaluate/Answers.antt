@@ -1,22 +1,27 @@
-use Rattle.std.proofs.Common.{◌≡◌, rules, ◌+◌, ◌<◌, true, List, [], ◌∷◌, length, take, get_or, arith, refl, sym, ap, subst, ◌∙◌}
+use Rattle.std.proofs.Common.{◌≡◌, length-append, rules, ◌+◌, ◌<◌, true, List, [], ◌∷◌, length, take, get_or, arith, refl, sym, ap, subst, ◌∙◌}
 use Rattle.std.proofs.lemmas.Int.{ints}
 use Rattle.std.proofs.lemmas.List.{drop_more}
+use Rattle.ny_hands.specs.Hands.{GivesUp}
 use Rattle.ny_hands.proofs.HandLemmas.{hand_none}
 use Rattle.ny_hands.proofs.SpendLemmas.{all_in_hand, all_given_up}
-use Rattle.ny_trace.specs.Evaluates.{IsNoNumber, JoinTurn, CallTurn, Evaluates, sounds_of_values}
+use Rattle.ny_trace.specs.Evaluates.{IsNoNumber, JoinTurn, CallTurn, Part, PartsTurn, counted_names, Evaluates, sounds_of_values}
 use Rattle.ny_kernels.specs.declared.operation.Op.TheVariants.{Sub}
 use Rattle.ny_check.specs.declared.value.Value.TheVariants.{Number}
 use Rattle.ny_trace.proofs.StepLemmas.{lifted, value_lifted}
 use Rattle.ny_resolve.specs.declared.term.NameId.{NameId}
+use Rattle.ny_warp.specs.declared.env.Env.{Env}
 use Rattle.ny_check.specs.declared.node.ExprId.{ExprId}
 use Rattle.ny_check.specs.Code.{AllBelow, BindsBelow, function_at}
 use Rattle.ny_eval.specs.Built.{built, AreBuilt, AreBindsBuilt}
 use Rattle.ny_eval.specs.Framed.{names_in}
+use Rattle.ny_eval.specs.declared.parts.Parts.{Parts}
+use Rattle.ny_eval.specs.Parts.{count_in, part_at}
 use Rattle.ny_eval.proofs.AnswerLemmas.{on_err, err_one}
-use Rattle.ny_eval.proofs.BuiltLemmas.{call_parts, block_parts, pair_parts, sign_part, effect_part, choice_part, change_part}
-use Rattle.ny_eval.proofs.EvalLemmas.{sound_hand, value_hand, values_hand, first_hand, held_same, held_after, sound_under, value_under, number_is, no_number, operation_turn, pair_below, sign_below, call_below, block_below, effect_below, choice_below, change_below, pair_arm, sign_arm, name_arm, call_arm, block_arm, leaf_arm, effect_arm, choice_arm, change_arm, silent_arm}
-use Rattle.ny_eval.proofs.BodyLemmas.{below_at, built_part_at, empty_frame, empty_held, empty_count, bound_none, bound_step, bound_grown, passed_none, passed_step, passed_all, passed_grown, keep_refused, grown_still, held_grown, body_hand, leave_within, leave_hands, left_same, left_refused, block_turn, call_turn, if_ok}
+use Rattle.ny_eval.proofs.BuiltLemmas.{call_parts, block_parts, pair_parts, sign_part, effect_part, cue_part, mix_parts, repeat_part, choice_part, change_part}
+use Rattle.ny_eval.proofs.EvalLemmas.{sound_hand, value_hand, values_hand, first_hand, held_same, held_after, sound_under, value_under, number_is, no_number, operation_turn, pair_below, sign_below, call_below, block_below, effect_below, cue_below, mix_below, repeat_below, choice_below, change_below, pair_arm, sign_arm, name_arm, call_arm, block_arm, leaf_arm, effect_arm, cue_arm, mix_arm, repeat_arm, choice_arm, change_arm, silent_arm}
+use Rattle.ny_eval.proofs.BodyLemmas.{below_at, built_part_at, empty_frame, empty_held, empty_count, bound_none, bound_step, bound_grown, passed_none, passed_step, passed_grown, keep_refused, grown_still, held_grown, body_hand, leave_within, leave_hands, left_same, left_refused, block_turn, call_turn, if_ok}
 use Rattle.ny_eval.proofs.ShapeLemmas.{effect_single, effect_made}
+use Rattle.ny_eval.proofs.PartLemmas.{parts_all, expr_below, expr_built, part_turn, number_in_hand, number_given_up, number_grown, counted_turn, parts_none, parts_refused, parts_more}
 use Rattle.ny_eval.proofs.expression.+evaluate.Goals as goal
 
 -- ---- an expression
@@ -79,6 +84,38 @@ pub evaluate-returns-in_ok-affected-in-Effect-clause-evaluates : goal.evaluate-r
 evaluate-returns-in_ok-affected-in-Effect-clause-evaluates t c =
     effect_arm c.args.p.now c.args.e.0 c.node.result.now c.args.env (names_in c.args.frame.now) c.args.heap.now c.affected.new.heap c.in_ok-affected-in-Effect.field-0 c.node.ensures.value c.node.ensures.ordered c.in-Effect.effect c.in-Effect.part c.in-Effect.parts c.as_slice-in-Effect.result.now c.in-Effect.is c.as_slice-in-Effect.ensures c.in_ok-affected-in-Effect.ensures.turn
 
+pub evaluate-cue-requires : goal.evaluate-cue-requires
+evaluate-cue-requires t c =
+    let under = cue_below c.args.p.now c.args.e.0 c.in-Cue.part c.node.result.now c.in-Cue.is c.node.ensures.ordered in
+    let part = cue_part c.args.p.now c.args.e.0 c.node.result.now c.node.ensures.value c.requires.built c.in-Cue.part c.in-Cue.is in
+    (omega (arith, under, c.decreases), (omega (arith, under, c.requires.inside), (part, c.requires.names)))
+
+pub evaluate-returns-in_ok-cue-in-Cue-clause-evaluates : goal.evaluate-returns-in_ok-cue-in-Cue-clause-evaluates
+evaluate-returns-in_ok-cue-in-Cue-clause-evaluates t c =
+    cue_arm c.args.p.now c.args.e.0 c.node.result.now c.args.env (names_in c.args.frame.now) c.args.heap.now c.cue.new.heap c.in_ok-cue-in-Cue.field-0 c.node.ensures.value c.node.ensures.ordered c.in-Cue.part c.in-Cue.is c.in_ok-cue-in-Cue.ensures.turn
+
+pub evaluate-together-requires : goal.evaluate-together-requires
+evaluate-together-requires t c =
+    let under = mix_below c.args.p.now c.args.e.0 c.in-Mix.field-0 c.in-Mix.parts c.node.result.now c.in-Mix.is c.node.ensures.ordered in
+    let parts = mix_parts c.args.p.now c.args.e.0 c.node.result.now c.node.ensures.value c.requires.built c.in-Mix.field-0 c.in-Mix.parts c.in-Mix.is in
+    (omega (arith, c.decreases), (c.requires.inside, (subst (λ es. AllBelow c.args.e.0 es) (sym c.as_slice-in-Mix.ensures) under, (subst (λ es. AreBuilt c.args.p.now es) (sym c.as_slice-in-Mix.ensures) parts.1, c.requires.names))))
+
+pub evaluate-returns-in_ok-together-in-Mix-clause-evaluates : goal.evaluate-returns-in_ok-together-in-Mix-clause-evaluates
+evaluate-returns-in_ok-together-in-Mix-clause-evaluates t c =
+    let parts = mix_parts c.args.p.now c.args.e.0 c.node.result.now c.node.ensures.value c.requires.built c.in-Mix.field-0 c.in-Mix.parts c.in-Mix.is in
+    mix_arm c.args.p.now c.args.e.0 c.node.result.now c.args.env (names_in c.args.frame.now) c.args.heap.now c.together.new.heap c.in_ok-together-in-Mix.field-0 c.node.ensures.value c.node.ensures.ordered c.in-Mix.field-0 c.in-Mix.parts c.as_slice-in-Mix.result.now c.in-Mix.is c.as_slice-in-Mix.ensures parts.0 c.in_ok-together-in-Mix.ensures.turn
+
+pub evaluate-together-requires-in-Repeat : goal.evaluate-together-requires-in-Repeat
+evaluate-together-requires-in-Repeat t c =
+    let under = repeat_below c.args.p.now c.args.e.0 c.in-Repeat.field-0 c.in-Repeat.i c.in-Repeat.count c.in-Repeat.part c.node.result.now c.in-Repeat.is c.node.ensures.ordered in
+    let part = repeat_part c.args.p.now c.args.e.0 c.node.result.now c.node.ensures.value c.requires.built c.in-Repeat.field-0 c.in-Repeat.i c.in-Repeat.count c.in-Repeat.part c.in-Repeat.is in
+    (omega (arith, c.decreases), (c.requires.inside, (under, (part.1, c.requires.names))))
+
+pub evaluate-returns-in_ok-together-in-Repeat-clause-evaluates : goal.evaluate-returns-in_ok-together-in-Repeat-clause-evaluates
+evaluate-returns-in_ok-together-in-Repeat-clause-evaluates t c =
+    let part = repeat_part c.args.p.now c.args.e.0 c.node.result.now c.node.ensures.value c.requires.built c.in-Repeat.field-0 c.in-Repeat.i c.in-Repeat.count c.in-Repeat.part c.in-Repeat.is in
+    repeat_arm c.args.p.now c.args.e.0 c.node.result.now c.args.env (names_in c.args.frame.now) c.args.heap.now c.together-in-Repeat.new.heap c.in_ok-together-in-Repeat.field-0 c.node.ensures.value c.node.ensures.ordered c.in-Repeat.field-0 c.in-Repeat.i c.in-Repeat.count c.in-Repeat.part c.in-Repeat.is part.0 c.in_ok-together-in-Repeat.ensures.turn
+
 pub evaluate-returns-in_err-test-in-If-clause-refused : goal.evaluate-returns-in_err-test-in-If-clause-refused
 evaluate-returns-in_err-test-in-If-clause-refused t c = on_err _ _ (hand_none c.args.heap.now c.lawful.ensures)
 
@@ -112,7 +149,7 @@ pub evaluate-returns-in_ok-silent-in_default : goal.evaluate-returns-in_ok-silen
 evaluate-returns-in_ok-silent-in_default t c =
     let no = c.in_default in
     record {
-      evaluates = silent_arm c.args.p.now c.args.e.0 c.node.result.now c.args.env (names_in c.args.frame.now) c.args.heap.now c.silent.new.heap c.in_ok-silent-in_default.field-0 c.node.ensures.value c.node.ensures.ordered no.not-Local no.not-Call no.not-Block no.not-Pair no.not-Neg no.not-Leaf no.not-Effect no.not-If no.not-Change c.in_ok-silent-in_default.ensures.silent c.requires.built;
+      evaluates = silent_arm c.args.p.now c.args.e.0 c.node.result.now c.args.env (names_in c.args.frame.now) c.args.heap.now c.silent.new.heap c.in_ok-silent-in_default.field-0 c.node.ensures.value c.node.ensures.ordered no.not-Local no.not-Call no.not-Block no.not-Pair no.not-Neg no.not-Leaf no.not-Effect no.not-If no.not-Cue no.not-Mix no.not-Repeat no.not-Change c.in_ok-silent-in_default.ensures.silent c.requires.built;
       same = refl;
       refused = tt;
     }
@@ -216,6 +253,152 @@ affected-returns-clause-turn t c n less = record {
   is = effect_made c.args.effect c.as_slice.result.now _ c.in_ok-sound.sound.timing.rate c.make_of-make.result c.make_of-make.ensures (c.as_slice.ensures.value ∙ c.in_ok-numbers.ensures.values);
   made = c.in_ok-single.ensures.makes;
 }
+
+-- ---- a cue
+
+pub cue-returns-in_err-copy-clause-refused : goal.cue-returns-in_err-copy-clause-refused
+cue-returns-in_err-copy-clause-refused t c = on_err _ _ (hand_none c.args.heap.now c.lawful.ensures)
+
+pub cue-evaluate-requires : goal.cue-evaluate-requires
+cue-evaluate-requires t c = (omega (arith, c.decreases), (c.requires.inside, (c.requires.built, c.requires.names)))
+
+pub cue-cued-requires : goal.cue-cued-requires
+cue-cued-requires t c = record {
+  hands = all_in_hand c.args.heap.now c.evaluate.new.heap (c.in_ok-sound.sound ∷ []) c.lawful.ensures
+      (sound_hand c.args.p.now c.order_law.ensures.ordered (c.args.part.0 + 1) c.args.part.0 c.in_ok-copy.field-0 (names_in c.args.frame.now) c.args.heap.now c.evaluate.new.heap c.in_ok-sound.sound c.requires.inside c.requires.built c.lawful.ensures c.requires.names c.in_ok-sound.ensures.evaluates);
+}
+
+pub cue-returns-in_err-cued-clause-refused : goal.cue-returns-in_err-cued-clause-refused
+cue-returns-in_err-cued-clause-refused t c =
+    on_err _ _ (all_given_up c.args.heap.now c.evaluate.new.heap c.cued.new.heap (c.in_ok-sound.sound ∷ []) c.lawful.ensures
+    (sound_hand c.args.p.now c.order_law.ensures.ordered (c.args.part.0 + 1) c.args.part.0 c.in_ok-copy.field-0 (names_in c.args.frame.now) c.args.heap.now c.evaluate.new.heap c.in_ok-sound.sound c.requires.inside c.requires.built c.lawful.ensures c.requires.names c.in_ok-sound.ensures.evaluates)
+    c.in_err-cued.ensures.gives_up)
+
+pub cue-returns-clause-turn : goal.cue-returns-clause-turn
+cue-returns-clause-turn t c n less = record {
+  part = c.in_ok-sound.sound;
+  mid = c.evaluate.new.heap;
+  evaluates = lifted c.args.p.now (c.args.part.0 + 1) n c.args.part.0 c.args.env (names_in c.args.frame.now) c.args.heap.now c.evaluate.new.heap c.in_ok-sound.sound (omega (arith, less))
+      (subst (λ (q : Env). Evaluates c.args.p.now (c.args.part.0 + 1) c.args.part.0 q (names_in c.args.frame.now) c.args.heap.now c.evaluate.new.heap c.in_ok-sound.sound) c.in_ok-copy.ensures c.in_ok-sound.ensures.evaluates);
+  cued = c.in_ok-cued.ensures.turn;
+}
+
+-- ---- a part of a mix
+
+pub part-evaluate-requires : goal.part-evaluate-requires
+part-evaluate-requires t c =
+    let is = ap (λ (q : Parts). part_at (names_in c.args.frame.now) q c.args.k) c.in-Listed.is ∙ ap (λ (y : ExprId). (y, names_in c.args.frame.now)) (sym (c.expr_at.ensures (record { 0 = 0 }))) in
+    let x = c.expr_at.result in
+    let below = expr_below (names_in c.args.frame.now) c.args.parts.now c.args.k x (names_in c.args.frame.now) is c.requires.place c.args.e.0 c.requires.below in
+    (omega (arith, below, c.decreases), (omega (arith, below, c.requires.inside), (expr_built (names_in c.args.frame.now) c.args.parts.now c.args.k x (names_in c.args.frame.now) is c.requires.place c.args.p.now c.requires.built, c.requires.names)))
+
+pub part-returns-in_ok-evaluate-in-Listed-clause-evaluates : goal.part-returns-in_ok-evaluate-in-Listed-clause-evaluates
+part-returns-in_ok-evaluate-in-Listed-clause-evaluates t c =
+    let is = ap (λ (q : Parts). part_at (names_in c.args.frame.now) q c.args.k) c.in-Listed.is ∙ ap (λ (y : ExprId). (y, names_in c.args.frame.now)) (sym (c.expr_at.ensures (record { 0 = 0 }))) in
+    part_turn (names_in c.args.frame.now) c.args.parts.now c.args.k c.expr_at.result (names_in c.args.frame.now) is c.requires.place c.args.p.now c.args.e.0 c.args.env c.args.heap.now c.evaluate.new.heap c.in_ok-evaluate-in-Listed.field-0 c.requires.below c.in_ok-evaluate-in-Listed.ensures.evaluates
+
+pub part-turn_number-requires : goal.part-turn_number-requires
+part-turn_number-requires t c = omega (arith, c.requires.place, ap count_in c.in-Counted.is)
+
+pub part-keep-requires : goal.part-keep-requires
+part-keep-requires t c = record { hands = number_in_hand c.args.frame.now c.args.frame.now c.args.heap.now c.in-Counted.i c.turn_number.result c.args.k c.lawful.ensures c.turn_number.ensures }
+
+pub part-returns-in_err-keep-in-Counted-clause-refused : goal.part-returns-in_err-keep-in-Counted-clause-refused
+part-returns-in_err-keep-in-Counted-clause-refused t c = on_err _ _ (number_given_up c.args.frame.now c.keep.new.self c.args.heap.now c.in-Counted.i c.turn_number.result c.args.k c.lawful.ensures c.turn_number.ensures c.keep.new.heap c.in_err-keep-in-Counted.ensures.gives_up)
+
+pub part-evaluate-sound-requires : goal.part-evaluate-sound-requires
+part-evaluate-sound-requires t c =
+    let is = ap (λ (q : Parts). part_at (names_in c.args.frame.now) q c.args.k) c.in-Counted.is in
+    let grown = number_grown c.args.frame.now c.keep.new.self c.args.heap.now c.in-Counted.i c.turn_number.result c.args.k c.lawful.ensures c.turn_number.ensures c.keep.new.heap c.in_ok-keep-in-Counted.ensures.held c.in_ok-keep-in-Counted.ensures.bound in
+    let below = expr_below (names_in c.args.frame.now) c.args.parts.now c.args.k c.in-Counted.counted (counted_names (names_in c.args.frame.now) c.in-Counted.i c.args.k) is c.requires.place c.args.e.0 c.requires.below in
+    (omega (arith, below, c.decreases), (omega (arith, below, c.requires.inside), (expr_built (names_in c.args.frame.now) c.args.parts.now c.args.k c.in-Counted.counted (counted_names (names_in c.args.frame.now) c.in-Counted.i c.args.k) is c.requires.place c.args.p.now c.requires.built, held_grown c.args.frame.now c.keep.new.self c.args.heap.now c.keep.new.heap c.lawful.ensures grown c.requires.names)))
+
+pub part-leave-requires : goal.part-leave-requires
+part-leave-requires t c =
+    let is = ap (λ (q : Parts). part_at (names_in c.args.frame.now) q c.args.k) c.in-Counted.is in
+    let grown = number_grown c.args.frame.now c.keep.new.self c.args.heap.now c.in-Counted.i c.turn_number.result c.args.k c.lawful.ensures c.turn_number.ensures c.keep.new.heap c.in_ok-keep-in-Counted.ensures.held c.in_ok-keep-in-Counted.ensures.bound in
+    let below = expr_below (names_in c.args.frame.now) c.args.parts.now c.args.k c.in-Counted.counted (counted_names (names_in c.args.frame.now) c.in-Counted.i c.args.k) is c.requires.place c.args.e.0 c.requires.below in
+    let built = expr_built (names_in c.args.frame.now) c.args.parts.now c.args.k c.in-Counted.counted (counted_names (names_in c.args.frame.now) c.in-Counted.i c.args.k) is c.requires.place c.args.p.now c.requires.built in
+    let held = held_grown c.args.frame.now c.keep.new.self c.args.heap.now c.keep.new.heap c.lawful.ensures grown c.requires.names in
+    let body = body_hand c.args.p.now c.order_law.ensures.ordered (c.in-Counted.counted.0 + 1) c.in-Counted.counted.0 c.args.env (names_in c.keep.new.self) c.keep.new.heap c.evaluate-sound.new.heap c.evaluate-sound.result (omega (arith, below, c.requires.inside)) built grown.hand.laws held c.evaluate-sound.ensures.evaluates c.evaluate-sound.ensures.refused in
+    record { within = leave_within c.args.frame.now c.keep.new.self c.evaluate-sound.new.frame c.args.heap.now c.keep.new.heap c.evaluate-sound.new.heap c.len-before.result c.lawful.ensures grown c.evaluate-sound.ensures.same c.len-before.ensures; hands = leave_hands c.args.frame.now c.keep.new.self c.evaluate-sound.new.frame c.args.heap.now c.keep.new.heap c.evaluate-sound.new.heap c.len-before.result c.lawful.ensures grown c.evaluate-sound.ensures.same c.len-before.ensures body }
+
+pub part-returns-in_ok-keep-in-Counted-clause-evaluates : goal.part-returns-in_ok-keep-in-Counted-clause-evaluates
+part-returns-in_ok-keep-in-Counted-clause-evaluates t c =
+    let is = ap (λ (q : Parts). part_at (names_in c.args.frame.now) q c.args.k) c.in-Counted.is in
+    if_ok c.evaluate-sound.result _ _
+    (λ s evaluates.
+    part_turn (names_in c.args.frame.now) c.args.parts.now c.args.k c.in-Counted.counted (counted_names (names_in c.args.frame.now) c.in-Counted.i c.args.k) is c.requires.place c.args.p.now c.args.e.0 c.args.env c.args.heap.now c.leave.new.heap s c.requires.below
+    (counted_turn c.args.frame.now c.keep.new.self c.args.heap.now c.in-Counted.i c.turn_number.result c.args.k c.lawful.ensures c.turn_number.ensures c.keep.new.heap c.in_ok-keep-in-Counted.ensures.held c.in_ok-keep-in-Counted.ensures.bound c.args.p.now (c.in-Counted.counted.0 + 1) c.in-Counted.counted.0 c.args.env c.evaluate-sound.new.frame c.len-before.result c.evaluate-sound.new.heap c.leave.new.heap s c.evaluate-sound.ensures.same c.len-before.ensures c.leave.ensures.released evaluates))
+    c.evaluate-sound.ensures.evaluates
+
+pub part-returns-in_ok-keep-in-Counted-clause-same : goal.part-returns-in_ok-keep-in-Counted-clause-same
+part-returns-in_ok-keep-in-Counted-clause-same t c =
+    let grown = number_grown c.args.frame.now c.keep.new.self c.args.heap.now c.in-Counted.i c.turn_number.result c.args.k c.lawful.ensures c.turn_number.ensures c.keep.new.heap c.in_ok-keep-in-Counted.ensures.held c.in_ok-keep-in-Counted.ensures.bound in
+    left_same c.args.frame.now c.keep.new.self c.evaluate-sound.new.frame c.args.heap.now c.keep.new.heap c.evaluate-sound.new.heap c.len-before.result c.lawful.ensures grown c.evaluate-sound.ensures.same c.len-before.ensures c.leave.new.self c.leave.ensures.left
+
+pub part-returns-in_ok-keep-in-Counted-clause-refused : goal.part-returns-in_ok-keep-in-Counted-clause-refused
+part-returns-in_ok-keep-in-Counted-clause-refused t c =
+    let grown = number_grown c.args.frame.now c.keep.new.self c.args.heap.now c.in-Counted.i c.turn_number.result c.args.k c.lawful.ensures c.turn_number.ensures c.keep.new.heap c.in_ok-keep-in-Counted.ensures.held c.in_ok-keep-in-Counted.ensures.bound in
+    err_one c.evaluate-sound.result _ _ (λ hand. left_refused c.args.frame.now c.keep.new.self c.evaluate-sound.new.frame c.args.heap.now c.keep.new.heap c.evaluate-sound.new.heap c.len-before.result c.lawful.ensures grown c.evaluate-sound.ensures.same c.len-before.ensures c.leave.new.heap c.leave.ensures.released hand) c.evaluate-sound.ensures.refused
+
+-- ---- parts, one after another
+
+pub each_part-loop-k-init : goal.each_part-loop-k-init
+each_part-loop-k-init t c = record {
+  so_far = parts_none c.args.p.now c.args.e.0 c.args.env.now (names_in c.args.frame.now) c.args.parts.now c.args.heap.now c.args.sounds.now.items c.requires.none c.lawful.ensures;
+  count = ap length c.requires.none;
+  room = refl;
+  same = refl;
+}
+
+pub each_part-part-requires : goal.each_part-part-requires
+each_part-part-requires t c =
+    (omega (arith, c.decreases), (c.requires.inside, (c.requires.below, (c.requires.built, (omega (arith, c.count-k-end.ensures), held_after c.args.heap.now c.loop-k.heap c.loop-k.sounds.items c.args.frame.now c.loop-k.frame c.lawful.ensures c.loop-k.invariant.so_far.hand c.loop-k.invariant.same c.requires.names)))))
+
+pub each_part-returns-in_err-sound-clause-hand : goal.each_part-returns-in_err-sound-clause-hand
+each_part-returns-in_err-sound-clause-hand t c = parts_refused c.args.p.now c.args.e.0 c.args.env.now (names_in c.args.frame.now) c.args.parts.now c.loop-k.k c.args.heap.now c.loop-k.heap c.part.new.heap c.loop-k.sounds.items c.loop-k.invariant.so_far c.in_err-sound.ensures.refused
+
+pub each_part-push_reserved-requires : goal.each_part-push_reserved-requires
+each_part-push_reserved-requires t c = omega (arith, c.loop-k.invariant.count, c.loop-k.invariant.room, c.requires.room, c.count-k-end.ensures)
+
+pub each_part-loop-k-preserved : goal.each_part-loop-k-preserved
+each_part-loop-k-preserved t c = record {
+  so_far = parts_more c.args.p.now c.order_law.ensures.ordered c.args.e.0 c.args.env.now c.in_ok-copy.field-0 c.args.frame.now c.loop-k.frame c.args.parts.now c.loop-k.k c.args.heap.now c.loop-k.heap c.part.new.heap c.loop-k.sounds.items c.push_reserved.new.self.items c.in_ok-sound.sound c.requires.inside c.in_ok-copy.ensures c.loop-k.invariant.same (omega (arith, c.count-k-end.ensures)) c.requires.below c.requires.built
+      (held_after c.args.heap.now c.loop-k.heap c.loop-k.sounds.items c.args.frame.now c.loop-k.frame c.lawful.ensures c.loop-k.invariant.so_far.hand c.loop-k.invariant.same c.requires.names)
+      c.loop-k.invariant.so_far c.in_ok-sound.ensures.evaluates c.push_reserved.ensures.items;
+  count = omega (arith, c.loop-k.invariant.count, ap length c.push_reserved.ensures.items, length-append c.loop-k.sounds.items (c.in_ok-sound.sound ∷ []));
+  room = c.push_reserved.ensures.capacity ∙ c.loop-k.invariant.room;
+  same = c.part.ensures.same ∙ c.loop-k.invariant.same;
+}
+
+pub each_part-returns-clause-each : goal.each_part-returns-clause-each
+each_part-returns-clause-each t c =
+    subst (λ (ps : List Part). PartsTurn (Evaluates c.args.p.now c.args.e.0) c.args.env.now ps c.args.heap.now c.loop-k.heap c.loop-k.sounds.items) (parts_all (names_in c.args.frame.now) c.args.parts.now c.loop-k.k (omega (arith, c.count-k-end.ensures))) c.loop-k.invariant.so_far.turn
+
+-- ---- parts together
+
+pub together-returns-in_err-sounds-clause-refused : goal.together-returns-in_err-sounds-clause-refused
+together-returns-in_err-sounds-clause-refused t c = on_err _ _ (hand_none c.args.heap.now c.lawful.ensures)
+
+pub together-each_part-requires : goal.together-each_part-requires
+together-each_part-requires t c =
+    (omega (arith, c.decreases), (c.requires.inside, (c.requires.below, (c.requires.built, (c.requires.names, (c.in_ok-sounds.ensures.items, omega (arith, c.in_ok-sounds.ensures.capacity, c.count.ensures)))))))
+
+pub together-mixed-requires : goal.together-mixed-requires
+together-mixed-requires t c = record { hands = all_in_hand c.args.heap.now c.each_part.new.heap c.each_part.new.sounds.items c.lawful.ensures c.each_part.ensures.hand }
+
+pub together-returns-in-Ok-clause-turn : goal.together-returns-in-Ok-clause-turn
+together-returns-in-Ok-clause-turn t c = record { parts = c.each_part.new.sounds.items; mid = c.each_part.new.heap; each = c.in-Ok.ensures.each; mixed = c.in_ok-mixed-in-Ok.ensures.turn }
+
+pub together-returns-in_err-mixed-in-Ok-clause-refused : goal.together-returns-in_err-mixed-in-Ok-clause-refused
+together-returns-in_err-mixed-in-Ok-clause-refused t c =
+    on_err _ _ (all_given_up c.args.heap.now c.each_part.new.heap c.mixed.new.heap c.each_part.new.sounds.items c.lawful.ensures c.each_part.ensures.hand c.in_err-mixed-in-Ok.ensures.gives_up)
+
+pub together-returns-clause-refused : goal.together-returns-clause-refused
+together-returns-clause-refused t c =
+    all_given_up c.args.heap.now c.each_part.new.heap c.give_up_all.new.heap c.each_part.new.sounds.items c.lawful.ensures c.each_part.ensures.hand
+    (subst (λ ss. GivesUp c.each_part.new.heap c.give_up_all.new.heap ss) c.from.ensures.0 c.give_up_all.ensures.gives_up)
 
 -- ---- a block
 

@@ -1,11 +1,9 @@
-use Rattle.std.proofs.Common.{◌≡◌, ◌+◌, ◌∙◌, ap, sym, subst}
+use Rattle.std.proofs.Common.{◌+◌, sym, subst}
 use Rattle.ny_check.specs.Heights.{height_of}
-use Rattle.ny_heap.specs.Heap.{HeapState}
 use Rattle.ny_hands.specs.Frames.{Names, AllHeld}
 use Rattle.ny_hands.proofs.HandLemmas.{hand_none}
 use Rattle.ny_hands.proofs.HeldLemmas.{held_named}
 use Rattle.ny_trace.specs.Evaluates.{Evaluates}
-use Rattle.ny_eval.specs.Framed.{names_in}
 use Rattle.ny_eval.proofs.AnswerLemmas.{on_err}
 use Rattle.ny_eval.proofs.EvalLemmas.{names_lent}
 use Rattle.ny_eval.proofs.PlayedLemmas.{played_lawful, heights_enough, played_rising, played_quiet}

@@ -1,4 +1,4 @@
-use Rattle.std.proofs.Common.{◌≡◌, refl, arith}
+use Rattle.std.proofs.Common.{refl, arith}
 use Rattle.std.proofs.Math.ListN.{set}
 use Rattle.ny_eval.proofs.FrameLemmas.{left_next, kept_next, hands_now, hands_next, released_next}
 use Rattle.ny_eval.proofs.frame.give_up_after.Goals as goal

@@ -1,7 +1,4 @@
-use Rattle.std.proofs.Common.{◌≡◌, ◌+◌, ◌++◌, [], ◌∷◌, ◌∙◌, ap, arith, List, get_or}
-use Rattle.ny_resolve.specs.declared.term.NameId.{NameId}
-use Rattle.ny_check.specs.declared.value.Value.{Value}
-use Rattle.ny_heap.specs.declared.sound.Sound.{Sound}
+use Rattle.std.proofs.Common.{arith}
 use Rattle.ny_eval.proofs.FrameLemmas.{places_next}
 use Rattle.ny_eval.proofs.frame.places_of.Goals as goal
 

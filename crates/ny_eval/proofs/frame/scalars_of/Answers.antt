@@ -1,4 +1,4 @@
-use Rattle.std.proofs.Common.{◌≡◌, ◌+◌, ◌++◌, [], ◌∷◌, ◌∙◌, ap, arith, sym, List, get_or}
+use Rattle.std.proofs.Common.{◌∙◌, ap, arith}
 use Rattle.ny_resolve.specs.declared.term.NameId.{NameId}
 use Rattle.ny_check.specs.declared.value.Value.{Value}
 use Rattle.ny_check.specs.Values.{scalar_in}

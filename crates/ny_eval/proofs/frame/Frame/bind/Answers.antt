@@ -1,4 +1,4 @@
-use Rattle.std.proofs.Common.{◌≡◌, ◌++◌, [], ◌∷◌, ◌∙◌, ap, List}
+use Rattle.std.proofs.Common.{◌++◌, [], ◌∷◌, ◌∙◌, ap}
 use Rattle.ny_hands.specs.Frames.{Names}
 use Rattle.ny_eval.proofs.FrameLemmas.{bound_places, bound_scalars}
 use Rattle.ny_eval.proofs.frame.Frame.bind.Goals as goal

@@ -1,4 +1,4 @@
-use Rattle.std.proofs.Common.{◌≡◌, ◌+◌, ◌++◌, ap, sym, ◌∙◌, arith, length, get_or, length-append}
+use Rattle.std.proofs.Common.{◌++◌, ap, ◌∙◌, arith, length, get_or, length-append}
 use Rattle.ny_hands.specs.Frames.{Names}
 use Rattle.ny_scope.specs.Scopes.{last_of}
 use Rattle.ny_resolve.specs.Keys.{same_name}

@@ -1,4 +1,4 @@
-use Rattle.std.proofs.Common.{◌≡◌, ◌≤◌, ◌+◌, ◌-◌, take, ap, sym, ◌∙◌, arith, length}
+use Rattle.std.proofs.Common.{◌≡◌, ◌≤◌, ◌+◌, ◌-◌, take, ap, ◌∙◌, arith, length}
 use Rattle.ny_hands.specs.Frames.{Names}
 use Rattle.ny_eval.specs.Framed.{FrameState}
 use Rattle.ny_eval.proofs.FrameLemmas.{count_is, cut_taken, left_places, left_scalars}
