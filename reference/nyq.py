@@ -780,7 +780,7 @@ class Acceptance:
         return total
 
 
-NOT_BUILT = ("cue", "sim", "simrep", "seq", "seqrep", "vector")
+NOT_BUILT = ("seq", "seqrep", "vector")
 
 
 def is_built(tree, acceptance):
