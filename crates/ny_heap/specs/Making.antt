@@ -14,7 +14,7 @@ use Rattle.ny_heap.specs.Heap.{Kind}
 use Rattle.ny_heap.specs.Steps.{first_memory}
 use Rattle.ny_heap.specs.Work.{kind_of, inputs_in, source_at, memory_in, HasGiven}
 use Rattle.ny_heap.specs.Tasks.{ReadsSound, HasSides, BeginsAt, BringsFrom, Hears}
-use Rattle.ny_heap.specs.Table.{Drops, len_of}
+use Rattle.ny_heap.specs.Table.{Drops, ShowsFirst}
 
 -- some places more, with nothing in them
 abbrev pub More : {A : Type 0} → List (Option A) → List (Option A) → Type 0
@@ -76,13 +76,7 @@ pub record Adds (old new : Table) (n : ℕ) (x : UnitData) (sounds : List Sound)
   pub given : HasGiven x.work x.timing.len 0
   pub sources : (i : ℕ) (s : Sound) → i < length sounds → s ≡ slice_index_or sounds i s → ReadsSound (source_at x.work i) s
 
--- a sound at the beginning of its list, of which it shows no more than there is
-pub record ShowsFirst (t : Table) (s : Sound) (c : CursorState) : Type 0 where
-  pub begins : c.place ≡ 0
-  pub some : 0 < s.timing.len
-  pub visible : s.timing.len ≤ len_of t.store c.list
-
--- so of each of these sounds that has a sample; the others are of length 0
+-- each is at the beginning of its list, of which it shows no more than there is: so of each of these sounds that has a sample; the others are of length 0
 abbrev pub ShowFirst : Table → List Sound → Type 0
 ShowFirst t sounds = All (λ s. ForSome s.reader (ShowsFirst t s) × (s.reader ≡ None → s.timing.len ≡ 0)) sounds
 
