@@ -5,6 +5,8 @@ pub mod PartLemmas
 pub mod RestLemmas
 pub mod CountLemmas
 pub mod DropLemmas
+pub mod WaitLemmas
+pub mod WaitingMeans
 pub mod ViewLemmas
 pub mod LawLemmas
 pub mod StepLemmas

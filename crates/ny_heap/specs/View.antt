@@ -1,5 +1,5 @@
 -- What a contract sees of the table. No public clause cites this module.
-use Rattle.std.specs.Prelude.{◌≡◌, ℕ, ◌+◌, ◌-◌, ◌^◌, ◌<◌, ◌≤◌, List, [], ◌∷◌, map, length, Option, None, Some, ℤ}
+use Rattle.std.specs.Prelude.{◌≡◌, ℕ, ◌+◌, ◌-◌, ◌^◌, ◌<◌, ◌≤◌, List, [], ◌∷◌, map, length, Option, None, Some, slice_index_or, ℤ}
 use Rattle.std.specs.List.{range_with_len}
 use Rattle.std.specs.Option.{option_map, option_map_or}
 use Rattle.ny_num.specs.declared.timing.Timing.{Timing}
@@ -25,6 +25,10 @@ filled_in s v = option_map_or (λ l. length l.values) (list_at s v) 0
 -- how many others than the units and these cursors stand in block j of list v: sounds in callers' hands
 abbrev pub outside_in : Table → List (Option CursorState) → ℕ → ℕ → ℕ
 outside_in t cs v j = mark_in t.store v j - (own_in t v j + held_in t cs v j)
+
+-- what the parts that wait are evaluated from, by the number of their unit
+abbrev pub branches_of : {B : Type 0} → List (List B) → ℕ → List B
+branches_of bss v = slice_index_or bss v []
 
 -- parts that wait: what each is evaluated from, with the sounds that it keeps
 abbrev pub waiting_with : {B : Type 0} → List B → List (List Sound) → List (Waiting B)
@@ -90,8 +94,9 @@ pub record IsHeap (t : Table) : Type 0 where
   pub waits : WaitsForNothing t
 
 -- the fields of a heap between two calls
-pub record IsHeapInside (t : Table) (size fills peak : ℕ) (out : List ℤ) : Type 0 where
+pub record IsHeapInside {B : Type 0} (branches : ℕ → List B) (t : Table) (size fills peak : ℕ) (out : List ℤ) : Type 0 where
   pub heap : IsHeap t
+  pub have : HaveBranches branches t
   pub counted : size ≡ length t.store.loose
   pub reached : peak ≤ size
   pub few : fills < 2 ^ 64
