@@ -57,7 +57,7 @@ abbrev pub first_cursor : ℕ → ℕ → CursorState
 first_cursor n len = record { list = n; place = 0; visible = len; tag = 0 }
 
 -- unit n, which is x, is new, has given nothing, and reads these sounds. Its parts that wait keep such
-pub record Adds (old new : Table) (n : ℕ) (x : UnitData) (sounds : List Sound) (waits : List (List Sound)) : Type 0 where
+pub record Adds (old new : Table) (n : ℕ) (x : UnitData) (sounds : List Sound) (kept : List (List Sound)) : Type 0 where
   pub place : n < length old.units.items
   pub within : n < length old.store.lists
   pub vacant : list_at old.store n ≡ None
@@ -76,7 +76,7 @@ pub record Adds (old new : Table) (n : ℕ) (x : UnitData) (sounds : List Sound)
   pub hears : Hears x.work x.timing x.inputs.items
   pub memory : memory_in x.work ≡ first_memory (kind_of x.work) sounds
   pub given : HasGiven x.work x.timing.len 0
-  pub waits : waits_in x.work ≡ waits
+  pub waits : waits_in x.work ≡ kept
   pub pending : x.pending ≡ 0
   pub places : HasPlaces x.work x.pending
   pub timings : length x.inputs.items + length (waits_in x.work) + x.pending ≤ vec_capacity x.inputs
