@@ -114,7 +114,7 @@ pub record Forgetting (start now : Table) (u : ℕ) : Type 0 where
   pub table : IsTable now []
   pub read : IsRead now
   pub settles : Settles start now u 0 0
-  pub filled : blocks_of start.block settles.was.timing.len ≤ filled_in start.store u
+  pub filled : (x : UnitData) → unit_at start u ≡ Some x → blocks_of start.block x.timing.len ≤ filled_in start.store u
 
 -- what the parts of unit u that wait keep: what they kept, until it has filled its last block
 abbrev pub WaitsStill : Table → Table → ℕ → Type 0

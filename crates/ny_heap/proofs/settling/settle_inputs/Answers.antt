@@ -3,7 +3,7 @@ use Rattle.ny_list.proofs.IndexLemmas.{same_some}
 use Rattle.ny_heap.specs.declared.table.Unit.{Unit as UnitData}
 use Rattle.ny_heap.specs.Work.{cursor_at}
 use Rattle.ny_heap.proofs.GoingLemmas.{Going-begun, going_input, Going-more, Going-done}
-use Rattle.ny_heap.proofs.settling.settle_all.Goals as goal
+use Rattle.ny_heap.proofs.settling.settle_inputs.Goals as goal
 
 pub loop-i-init : goal.loop-i-init
 loop-i-init c =
