@@ -1,5 +1,5 @@
 -- A unit has one block more.
-use Rattle.std.proofs.Common.{◌≡◌, ◌≢◌, inl, inr, ℕ, zero, suc, ◌+◌, ◌-◌, ◌*◌, ◌<◌, ◌≤◌, min, nat_lt, Bool, true, false, List, [], ◌∷◌, ◌++◌, length, map, get_or, slice_get, vec_capacity, set, Option, None, Some, IsSome, is_some, count_by, refl, sym, ap, subst, ◌∙◌, arith, ℤ, length-append}
+use Rattle.std.proofs.Common.{◌≡◌, ◌≢◌, inl, inr, ℕ, zero, suc, ◌+◌, ◌-◌, ◌*◌, ◌<◌, ◌≤◌, min, nat_lt, cond, Bool, true, false, List, [], ◌∷◌, ◌++◌, length, map, get_or, slice_get, vec_capacity, set, Option, None, Some, IsSome, is_some, count_by, refl, sym, ap, subst, ◌∙◌, arith, ℤ, length-append}
 use Rattle.std.specs.List.{sum_by, sum}
 use Rattle.std.specs.Option.{option_map, option_map_or}
 use Rattle.std.proofs.lemmas.List.{get_or-set_same, get_or-set_other}
@@ -16,7 +16,7 @@ use Rattle.ny_heap.specs.declared.sound.Sound.{Sound}
 use Rattle.ny_heap.specs.Work.{kind_of, inputs_in, cursor_at, need_in, waits_in, flat, kept_in, cursors_of_sounds, HasGiven}
 use Rattle.ny_heap.specs.Table.{unit_at, own_in, own_of, mark_in, len_of, input_of, readers_of, stands_at, timing_at, IsTable, IsUnit, IsInput, IsKept, IsRead, IsThere, computed_in, computed_next_in, is_open_in, lacks_in, lacking_from, or_else}
 use Rattle.ny_heap.specs.View.{filled_in}
-use Rattle.ny_heap.specs.Filling.{CanFill, Computes, Appends, Settling}
+use Rattle.ny_heap.specs.Filling.{CanFill, Computes, Appends, Settling, WaitsStill}
 use Rattle.ny_heap.proofs.TableLemmas.{place_within}
 use Rattle.ny_heap.proofs.ListLemmas.{list_within, list_here, list_other, mark_is, len_is, blank_len}
 use Rattle.ny_heap.proofs.KeepLemmas.{filled_is, waits_on, places_on, IsKept-to}
@@ -291,6 +291,10 @@ module _ (old mid new : Table) (u : ℕ) (out : List ℤ) (f : CanFill old u) (p
 
   pub filled_now : filled_in new.store u ≡ filled_in old.store u + 1
   filled_now = omega (arith, filled_is new.store u longer longer_here, longer_len, filled_is old.store u l listed)
+
+  -- what its parts keep, once its inputs have moved on
+  pub waits_then : (e : Table) (z : UnitData) → WaitsStill new e u → unit_at e u ≡ Some z → waits_in z.work ≡ cond (nat_lt (filled_in old.store u + 1) (blocks_of old.block x.timing.len)) (waits_in x.work) []
+  waits_then e z still at = still y z unit_here at ∙ (λ i. cond (nat_lt (filled_now i) (blocks_of (same_block i) x.timing.len)) (same_waits i) [])
 
   same_computed : (w : ℕ) → w ≢ u → computed_in new w ≡ computed_in old w
   same_computed w ne =
