@@ -2,17 +2,22 @@ pub mod WorkLemmas
 pub mod TableLemmas
 pub mod ListLemmas
 pub mod PartLemmas
+pub mod KeepLemmas
 pub mod RestLemmas
 pub mod CountLemmas
 pub mod DropLemmas
 pub mod WaitLemmas
 pub mod WaitingMeans
+pub mod SpentLemmas
+pub mod RoomLemmas
 pub mod ViewLemmas
 pub mod LawLemmas
 pub mod StepLemmas
 pub mod WantLemmas
 pub mod OpenLemmas
 pub mod NeedLemmas
+pub mod TakenLemmas
+pub mod HeardLemmas
 pub mod FirstLemmas
 pub mod SoundLemmas
 pub mod GrowLemmas
@@ -40,3 +45,4 @@ pub mod NextLemmas
 pub mod PassLemmas
 pub mod SettleLemmas
 pub mod GoingLemmas
+pub mod ForgetLemmas

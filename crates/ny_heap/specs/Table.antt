@@ -56,9 +56,9 @@ own_in t v j = sum_by (λ o. option_map_or (own_of t.block (len_of t.store v) v 
 abbrev pub held_in : Table → List (Option CursorState) → ℕ → ℕ → ℕ
 held_in t cs v j = sum_by (stands_at t.block (len_of t.store v) v j) cs
 
--- the cursors of work, from input i on
+-- the cursors of work, from input i on, and those that its parts that wait keep
 abbrev pub rest_of : Work → ℕ → List (Option CursorState)
-rest_of w i = map (cursor_at w) (range_with_len i (inputs_in w - i))
+rest_of w i = map (cursor_at w) (range_with_len i (inputs_in w - i)) ++ cursors_of_sounds (kept_in w)
 
 -- ---- what holds of units
 

@@ -116,6 +116,11 @@ flat (xs ∷ rest) = xs ++ flat rest
 abbrev pub kept_in : Work → List Sound
 kept_in w = flat (waits_in w)
 
+-- without the first part that waits
+abbrev pub without_first : Work → Work
+without_first (MixWork m) = MixWork (record m { waiting = drop 1 m.waiting })
+without_first w = w
+
 -- a mix has room for the parts that it has, those that wait, and so many that were handed out
 abbrev pub HasPlaces : Work → ℕ → Type 0
 HasPlaces (MixWork m) pending = length m.parts + length m.waiting + pending ≤ m.room
