@@ -46,3 +46,4 @@ pub mod PassLemmas
 pub mod SettleLemmas
 pub mod GoingLemmas
 pub mod ForgetLemmas
+pub mod StopLemmas

@@ -6,6 +6,7 @@
 #![tactic(auto)]
 
 mod adding;
+mod attaching;
 mod filling;
 mod heap;
 mod make;
