@@ -47,3 +47,4 @@ pub mod SettleLemmas
 pub mod GoingLemmas
 pub mod ForgetLemmas
 pub mod StopLemmas
+pub mod HandOutLemmas
