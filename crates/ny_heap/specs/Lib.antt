@@ -9,4 +9,5 @@ pub mod Tasks
 pub mod Table
 pub mod View
 pub mod Making
+pub mod Mixing
 pub mod Filling

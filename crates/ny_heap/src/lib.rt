@@ -9,6 +9,7 @@ mod adding;
 mod filling;
 mod heap;
 mod make;
+mod mixing;
 mod reading;
 mod removal;
 mod settling;
