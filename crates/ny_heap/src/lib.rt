@@ -10,6 +10,7 @@ mod attaching;
 mod filling;
 mod heap;
 mod make;
+mod mixing;
 mod reading;
 mod removal;
 mod settling;
