@@ -48,3 +48,4 @@ pub mod GoingLemmas
 pub mod ForgetLemmas
 pub mod StopLemmas
 pub mod HandOutLemmas
+pub mod AttachLemmas
