@@ -1,5 +1,5 @@
 -- What the parts of units that wait keep, and where the cursors of a unit stand.
-use Rattle.std.proofs.Common.{◌≡◌, ◌⊎◌, inl, inr, ℕ, zero, suc, ◌+◌, ◌<◌, ◌≤◌, ◌&&◌, nat_eq, cond, List, [], ◌∷◌, ◌++◌, length, get_or, slice_get, Option, None, Some, IsSome, refl, sym, ap, subst, ◌∙◌, arith, length-set}
+use Rattle.std.proofs.Common.{◌≡◌, ◌⊎◌, inl, inr, ℕ, zero, suc, ◌+◌, ◌<◌, ◌≤◌, ◌&&◌, nat_eq, cond, List, [], ◌∷◌, ◌++◌, length, get_or, slice_get, Option, None, Some, IsSome, refl, sym, ap, subst, ◌∙◌, arith, length-set, ◌*◌}
 use Rattle.std.specs.List.{sum_by}
 use Rattle.std.specs.Option.{option_map, option_map_or}
 use Rattle.std.proofs.lemmas.List.{length-drop}
@@ -24,6 +24,10 @@ use Rattle.ny_heap.proofs.TableLemmas.{place_within}
 
 pub filled_is : (s : StoreState) (v : ℕ) (l : ListState) → list_at s v ≡ Some l → filled_in s v ≡ length l.values
 filled_is s v l is = ap (λ (o : Option ListState). option_map_or {U = ℕ} (λ x. length x.values) o 0) is
+
+-- as many samples lie before a stop where as many blocks of one size are filled
+pub still_timely : (start m n b d last : ℕ) → n ≡ m → d ≡ b → start + m * b ≤ last → start + n * d ≤ last
+still_timely start m n b d last filled block before = subst (λ (k : ℕ × ℕ). start + k.0 * k.1 ≤ last) (λ i. (sym filled i, sym block i)) before
 
 -- ---- by the work
 

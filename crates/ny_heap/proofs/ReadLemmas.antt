@@ -25,6 +25,7 @@ use Rattle.ny_heap.specs.View.{filled_in, IsHeap}
 use Rattle.ny_heap.proofs.ListLemmas.{len_is}
 use Rattle.ny_heap.proofs.CountLemmas.{some_is, is_some_of, cursor_counted}
 use Rattle.ny_heap.proofs.HeardLemmas.{table_now, lists_now, IsRead-moved}
+use Rattle.ny_heap.proofs.KeepLemmas.{still_timely}
 
 -- ---- the table
 
@@ -51,6 +52,7 @@ module _ (t : Table) (c d : CursorState) (cs : List (Option CursorState)) (table
         subst (λ n. (timing_at x i).len ≤ taken_after t.block (kind_of x.work) x.timing (timing_at x i) n) (sym (filled_now v x at))
         (heap.exhausted v i x at inside reader none (subst (λ n. n < blocks_of t.block x.timing.len) (filled_now v x at) more));
     waits = λ v x at full. heap.waits v x at (subst (λ n. blocks_of t.block x.timing.len ≤ n) (filled_now v x at) full);
+    timely = λ v x at owes. still_timely x.timing.start (filled_in t.store v) (filled_in now.store v) t.block t.block _ (filled_now v x at) refl (heap.timely v x at owes);
   }
 
 -- ---- what is read at once
