@@ -22,13 +22,13 @@ use Rattle.ny_heap.specs.declared.table.Table.{Table}
 use Rattle.ny_heap.specs.declared.task.Task.{Task}
 use Rattle.ny_heap.specs.declared.work.Work.{Work}
 use Rattle.ny_heap.specs.Steps.{first_memory}
-use Rattle.ny_heap.specs.Work.{kind_of, inputs_in, source_at, cursor_at, memory_in, waits_in, flat, kept_in, cursors_of_sounds, HasPlaces, HasGiven}
+use Rattle.ny_heap.specs.Work.{kind_of, inputs_in, source_at, cursor_at, memory_in, waits_in, flat, kept_in, HasPlaces, HasGiven}
 use Rattle.ny_units.specs.declared.input.Source.{Source}
 use Rattle.ny_heap.specs.declared.task.Task.TheVariants.{Made as MadeTask, Mix as MixTask, Channel as ChannelTask}
 use Rattle.ny_heap.specs.Tasks.{IsTask, IsOver, ReadsSound, BeginsWork, waits_of_task, input_of_sound, HasSides, BeginsAt, BringsFrom, Hears}
 use Rattle.ny_heap.specs.Making.{HasRoom, Places, Adds, ShowFirst}
 use Rattle.ny_heap.specs.Heap.{Kind, blocks_of, taken_after}
-use Rattle.ny_heap.specs.Table.{unit_at, timing_at, own_in, own_of, held_in, len_of, mark_in, stands_at, rest_of, ShowsFirst, IsTable, IsUnit, IsInput, IsKept, IsRead}
+use Rattle.ny_heap.specs.Table.{unit_at, timing_at, own_in, own_of, held_in, len_of, mark_in, stands_at, ShowsFirst, IsTable, IsUnit, IsInput, IsKept, IsRead}
 use Rattle.ny_heap.specs.View.{filled_in, IsClean, IsAtNeed, IsExhausted, WaitsForNothing, IsHeap}
 use Rattle.ny_heap.proofs.ListLemmas.{list_here, list_other, len_is}
 use Rattle.ny_heap.proofs.RestLemmas.{inputs_rest}
