@@ -18,9 +18,8 @@ use Rattle.ny_heap.specs.declared.work.Work.{Work}
 use Rattle.ny_heap.specs.declared.work.Work.TheVariants.{Leaf as LeafWork, Pair as PairWork, Abs as AbsWork, Resample as ResampleWork, Filter as FilterWork, Mix as MixWork, Channel as ChannelWork}
 use Rattle.ny_heap.specs.Heap.{Reader, is_reader, stands_in}
 use Rattle.ny_heap.specs.Work.{source_at, with_source, cursor_at, waits_in, flat, kept_in, without_first, HasPlaces, cursors_of_sounds, MovesOn}
-use Rattle.ny_heap.specs.Table.{unit_at, timing_at, input_of, readers_of, own_of, len_of, stands_at, IsKept}
+use Rattle.ny_heap.specs.Table.{timing_at, input_of, readers_of, own_of, len_of, stands_at, IsKept}
 use Rattle.ny_heap.specs.View.{filled_in}
-use Rattle.ny_heap.proofs.TableLemmas.{place_within}
 
 pub filled_is : (s : StoreState) (v : ℕ) (l : ListState) → list_at s v ≡ Some l → filled_in s v ≡ length l.values
 filled_is s v l is = ap (λ (o : Option ListState). option_map_or {U = ℕ} (λ x. length x.values) o 0) is

@@ -10,12 +10,12 @@ use Rattle.ny_list.proofs.IndexLemmas.{same_some, none_some, tab_get, tab_past, 
 use Rattle.ny_heap.specs.declared.sound.Sound.{Sound}
 use Rattle.ny_heap.specs.declared.table.Unit.{Unit as UnitData}
 use Rattle.ny_heap.specs.declared.table.Table.{Table}
-use Rattle.ny_heap.specs.Heap.{Reader, Node, HeapState, node_at, block_at, input_at, list_of, place_of, blocks_of, stands_in, taken_after}
+use Rattle.ny_heap.specs.Heap.{Node, HeapState, node_at, block_at, list_of, place_of, blocks_of, stands_in, taken_after}
 use Rattle.ny_heap.specs.Means.{NodeMeans, KeepsMeaning, unit_value, all_inputs, nth_block}
-use Rattle.ny_heap.specs.Reach.{Uses, Read, Hold, ReadOutside, LeadsIn, IsTrimmed}
+use Rattle.ny_heap.specs.Reach.{Uses, ReadOutside, LeadsIn, IsTrimmed}
 use Rattle.ny_heap.specs.Steps.{IsCounted, changed, without_mark, without_sound}
 use Rattle.ny_heap.specs.Work.{kind_of}
-use Rattle.ny_heap.specs.Table.{unit_at, IsTable, Drops, own_in, held_in, mark_in, len_of, stands_at, readers_of, timing_at}
+use Rattle.ny_heap.specs.Table.{unit_at, IsTable, Drops, own_in, held_in, mark_in, len_of, stands_at, timing_at}
 use Rattle.ny_heap.specs.View.{node_of, state_of, state_with, outside_in, filled_in, HaveBranches, IsHeap}
 use Rattle.ny_heap.proofs.TableLemmas.{place_within}
 use Rattle.ny_heap.proofs.ListLemmas.{len_is}

@@ -1,4 +1,4 @@
-use Rattle.std.proofs.Common.{◌≡◌, ◌<◌, set, Vec, Global, List, ◌++◌, length, map, deque_items, Ok, Err, refl, sym, ap, subst, ◌∙◌}
+use Rattle.std.proofs.Common.{◌≡◌, ◌<◌, set, Vec, Global, List, ◌++◌, map, deque_items, Ok, Err, refl, sym, ap, subst, ◌∙◌}
 use Rattle.std.specs.Option.{option_map_or}
 use Rattle.std.proofs.lemmas.List.{length-map}
 use Rattle.ny_list.specs.Store.{CursorState}
@@ -9,8 +9,8 @@ use Rattle.ny_heap.specs.Means.{KeepsMeaning}
 use Rattle.ny_heap.specs.Reach.{IsTrimmed}
 use Rattle.ny_heap.specs.Steps.{AreHeld, waiting_of, sounds_of, without_sounds, kind_of_mix, Makes, MakesMeaning}
 use Rattle.ny_heap.specs.Table.{IsTable}
-use Rattle.ny_heap.specs.Tasks.{kind_of_task, lists_of, waits_of_task}
-use Rattle.ny_heap.specs.Mixing.{lists_in, kept_by}
+use Rattle.ny_heap.specs.Tasks.{kind_of_task, lists_of}
+use Rattle.ny_heap.specs.Mixing.{kept_by}
 use Rattle.ny_heap.specs.View.{branches_of, state_of}
 use Rattle.ny_heap.specs.Making.{IsMade}
 use Rattle.ny_heap.proofs.GainLemmas.{lost_here}
