@@ -9,4 +9,6 @@ pub mod Tasks
 pub mod Table
 pub mod View
 pub mod Making
+pub mod Mixing
 pub mod Filling
+pub mod Attaching
