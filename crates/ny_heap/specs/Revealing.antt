@@ -36,7 +36,7 @@ with_promise x = record x { waiting = drop 1 x.waiting; pending = x.pending + 1 
 -- these sounds more read their lists, where they stand
 abbrev pub with_sounds : {B : Type 0} → HeapState B → List Sound → HeapState B
 with_sounds h [] = h
-with_sounds h (s ∷ ss) = with_sound (with_sounds h ss) s
+with_sounds h (s ∷ ss) = with_sounds (with_sound h s) ss
 
 -- the first part that waited at u is its caller's, with the sounds that it kept
 pub record HandsOut {B : Type 0} (old new : HeapState B) (u : ℕ) (branch : B) (ss : List Sound) : Type 0 where
