@@ -1,5 +1,5 @@
 -- A unit has one block more.
-use Rattle.std.proofs.Common.{◌≡◌, ◌≢◌, inl, inr, ℕ, zero, suc, ◌+◌, ◌-◌, ◌*◌, ◌<◌, ◌≤◌, min, nat_lt, Bool, true, false, List, [], ◌∷◌, ◌++◌, length, map, get_or, set, Option, None, Some, IsSome, is_some, count_by, refl, sym, ap, subst, ◌∙◌, arith, ℤ, length-append}
+use Rattle.std.proofs.Common.{◌≡◌, ◌≢◌, inl, inr, ℕ, zero, suc, ◌+◌, ◌-◌, ◌*◌, ◌<◌, ◌≤◌, min, nat_lt, cond, Bool, true, false, List, [], ◌∷◌, ◌++◌, length, map, get_or, slice_get, vec_capacity, set, Option, None, Some, IsSome, is_some, count_by, refl, sym, ap, subst, ◌∙◌, arith, ℤ, length-append}
 use Rattle.std.specs.List.{sum_by, sum}
 use Rattle.std.specs.Option.{option_map, option_map_or}
 use Rattle.std.proofs.lemmas.List.{get_or-set_same, get_or-set_other}
@@ -12,15 +12,16 @@ use Rattle.ny_units.specs.Inputs.{start_of}
 use Rattle.ny_heap.specs.declared.table.Unit.{Unit as UnitData}
 use Rattle.ny_heap.specs.declared.table.Table.{Table}
 use Rattle.ny_heap.specs.Heap.{Reader, is_reader, taken_after, blocks_of}
-use Rattle.ny_heap.specs.Work.{kind_of, inputs_in, cursor_at, need_in, HasGiven}
-use Rattle.ny_heap.specs.Table.{unit_at, own_in, own_of, mark_in, len_of, input_of, readers_of, timing_at, IsTable, IsUnit, IsInput, IsRead, IsThere, computed_in, computed_next_in, is_open_in, lacks_in, lacking_from, or_else}
+use Rattle.ny_heap.specs.declared.sound.Sound.{Sound}
+use Rattle.ny_heap.specs.Work.{kind_of, inputs_in, cursor_at, need_in, waits_in, flat, kept_in, cursors_of_sounds, HasGiven}
+use Rattle.ny_heap.specs.Table.{unit_at, own_in, own_of, mark_in, len_of, input_of, readers_of, stands_at, timing_at, IsTable, IsUnit, IsInput, IsKept, IsRead, IsThere, computed_in, computed_next_in, is_open_in, lacks_in, lacking_from, or_else}
 use Rattle.ny_heap.specs.View.{filled_in}
-use Rattle.ny_heap.specs.Filling.{CanFill, Computes, Appends, Settling}
+use Rattle.ny_heap.specs.Filling.{CanFill, Computes, Appends, Settling, WaitsStill}
 use Rattle.ny_heap.proofs.TableLemmas.{place_within}
 use Rattle.ny_heap.proofs.ListLemmas.{list_within, list_here, list_other, mark_is, len_is, blank_len}
-use Rattle.ny_heap.proofs.CountLemmas.{is_some_of}
-use Rattle.ny_heap.proofs.ViewLemmas.{filled_is}
-use Rattle.ny_heap.proofs.FirstLemmas.{need_is}
+use Rattle.ny_heap.proofs.KeepLemmas.{filled_is, waits_on, places_on, IsKept-to}
+use Rattle.ny_heap.proofs.CountLemmas.{some_is, is_some_of}
+use Rattle.ny_heap.proofs.TakenLemmas.{need_is}
 use Rattle.ny_heap.proofs.MovesLemmas.{same_kind, same_inputs, same_source, same_reader, sides_on, begins_on, brings_on, hears_on, given_on}
 
 -- ---- what no input lacks
@@ -127,13 +128,17 @@ module _ (old mid new : Table) (u : ℕ) (out : List ℤ) (f : CanFill old u) (p
   pub same_kinds : kind_of p.work ≡ kind_of x.work
   same_kinds = same_kind x.work p.work (computed_next_in old u) p.moves
 
+  pub same_waits : waits_in p.work ≡ waits_in x.work
+  same_waits = waits_on x.work p.work (computed_next_in old u) p.moves
+
   pub same_readers : readers_of y ≡ readers_of x
   same_readers = tab_same (input_of y) (input_of x) (length x.inputs.items) None (λ i h. ap (option_map {U = Reader} (λ c. record { node = c.list; place = c.place; timing = timing_at x i })) (same_cursor i))
 
   pub same_own : (w j : ℕ) → own_in new w j ≡ own_in old w j
   same_own w j =
       let g = λ (o : Option UnitData). option_map_or {U = ℕ} (own_of old.block (len_of old.store w) w j) o 0 in
-      let here : g (Some y) ≡ g (get_or old.units.items u None) = ap (sum_by (is_reader old.block (len_of old.store w) w j)) same_readers ∙ sym (ap g p.was) in
+      let here : g (Some y) ≡ g (get_or old.units.items u None) =
+      (λ i. sum_by (is_reader old.block (len_of old.store w) w j) (same_readers i) + sum_by (stands_at old.block (len_of old.store w) w j) (cursors_of_sounds (flat (same_waits i)))) ∙ sym (ap g p.was) in
       let all : own_in new w j ≡ sum_by g (set old.units.items u (Some y)) =
       ap (λ b. sum_by (λ (o : Option UnitData). option_map_or {U = ℕ} (own_of b (len_of new.store w) w j) o 0) new.units.items) same_block
       ∙ ap (λ n. sum_by (λ (o : Option UnitData). option_map_or {U = ℕ} (own_of old.block n w j) o 0) new.units.items) (same_len w)
@@ -167,6 +172,8 @@ module _ (old mid new : Table) (u : ℕ) (out : List ℤ) (f : CanFill old u) (p
     brings = brings_on x.work p.work (computed_next_in old u) x.inputs.items p.moves was_unit.brings;
     hears = hears_on x.work p.work (computed_next_in old u) x.timing x.inputs.items p.moves was_unit.hears;
     given = subst (HasGiven p.work x.timing.len) next_in (given_on x.work p.work x.timing.len (min (length l.values * old.block) x.timing.len) (computed_next_in old u) p.moves was_unit.given);
+    places = places_on x.work p.work (computed_next_in old u) x.pending p.moves was_unit.places;
+    timings = omega (arith, was_unit.timings, ap length same_waits);
   }
 
   unit_kept : (w : ℕ) (z : UnitData) (k : ListState) → IsUnit old w z k → IsUnit new w z k
@@ -181,6 +188,8 @@ module _ (old mid new : Table) (u : ℕ) (out : List ℤ) (f : CanFill old u) (p
     brings = h.brings;
     hears = h.hears;
     given = subst (λ b. HasGiven z.work z.timing.len (min (length k.values * b) z.timing.len)) (sym same_block) h.given;
+    places = h.places;
+    timings = h.timings;
   }
 
   -- a list with more blocks is computed no less far
@@ -206,6 +215,18 @@ module _ (old mid new : Table) (u : ℕ) (out : List ℤ) (f : CanFill old u) (p
         (x, ap (unit_at old) e ∙ p.was, omega (arith, inside, ap (λ (q : UnitData). length q.inputs.items) same), sym (same_cursor i) ∙ ap (λ (q : UnitData). cursor_at q.work i) (sym same) ∙ cursor)
     | inr ne ↦ (z, sym (unit_else w ne) ∙ at, inside, cursor)
   ]
+
+  -- so is what a part keeps
+  kept_was : (w i : ℕ) (z : UnitData) (s : Sound) → unit_at new w ≡ Some z → slice_get (kept_in z.work) i ≡ Some s → (q : UnitData) × (unit_at old w ≡ Some q) × (slice_get (kept_in q.work) i ≡ Some s)
+  kept_was w i z s at is = elim (cases_eq w u) [
+    | inl e ↦
+        let same : z ≡ y = same_some (sym at ∙ ap (unit_at new) e ∙ unit_here) in
+        (x, ap (unit_at old) e ∙ p.was, ap (λ ws. slice_get (flat ws) i) (sym same_waits) ∙ ap (λ (q : UnitData). slice_get (kept_in q.work) i) (sym same) ∙ is)
+    | inr ne ↦ (z, sym (unit_else w ne) ∙ at, is)
+  ]
+
+  kept_now : (s : Sound) → IsKept old s → IsKept new s
+  kept_now s k = IsKept-to old new s (λ c reads there. let l = some_is (list_at old.store c.list) there in let n = list_to c.list l.0 l.1 in (is_some_of _ n.0 n.1, same_len c.list)) k
 
   pub IsTable-filled : IsTable new []
   IsTable-filled = record {
@@ -239,6 +260,7 @@ module _ (old mid new : Table) (u : ℕ) (out : List ℤ) (f : CanFill old u) (p
                 input_kept z i c h.0 n.0 n.2 n.3 (subst (λ d. IsInput old d i c h.0) was h.2)
           ],
         );
+    kept = λ w i z s at is. let q = kept_was w i z s at is in kept_now s (table.kept w i q.0 s q.1 q.2);
     held = λ i c is. absurd (none_some is);
     counted = λ w j k is. let b = list_back w k is in omega (arith, same_own w j, same_mark w j, table.counted w j b.0 b.1);
     rank = table.rank;
@@ -248,6 +270,7 @@ module _ (old mid new : Table) (u : ℕ) (out : List ℤ) (f : CanFill old u) (p
       | inr ne ↦ table.below w z (sym (unit_else w ne) ∙ at)
     ];
     falls = λ w i z c at inside cursor. let q = input_was w i z c at inside cursor in table.falls w i q.0 c q.1 q.2 q.3;
+    keeps_lower = λ w i z s c at is reads. let q = kept_was w i z s at is in table.keeps_lower w i q.0 s c q.1 q.2 reads;
   }
 
   sum_more : (marks : List ℕ) → sum (marks ++ 0 ∷ []) ≡ sum marks
@@ -269,6 +292,10 @@ module _ (old mid new : Table) (u : ℕ) (out : List ℤ) (f : CanFill old u) (p
   pub filled_now : filled_in new.store u ≡ filled_in old.store u + 1
   filled_now = omega (arith, filled_is new.store u longer longer_here, longer_len, filled_is old.store u l listed)
 
+  -- what its parts keep, once its inputs have moved on
+  pub waits_then : (e : Table) (z : UnitData) → WaitsStill new e u → unit_at e u ≡ Some z → waits_in z.work ≡ cond (nat_lt (filled_in old.store u + 1) (blocks_of old.block x.timing.len)) (waits_in x.work) []
+  waits_then e z still at = still y z unit_here at ∙ (λ i. cond (nat_lt (filled_now i) (blocks_of (same_block i) x.timing.len)) (same_waits i) [])
+
   same_computed : (w : ℕ) → w ≢ u → computed_in new w ≡ computed_in old w
   same_computed w ne =
       ap (λ (o : Option ListState). option_map_or {U = ℕ} (λ k. min (length k.values * new.block) k.len) o 0) (list_else w ne)
@@ -283,7 +310,7 @@ module _ (old mid new : Table) (u : ℕ) (out : List ℤ) (f : CanFill old u) (p
   need_there : (k : ℕ) (c : CursorState) → k < length x.inputs.items → cursor_at x.work k ≡ Some c → taken_after old.block (kind_of x.work) x.timing (timing_at x k) (filled_in old.store u + 1) ≤ computed_in old c.list
   need_there k c inside is =
       let within : k < inputs_in x.work = omega (arith, inside, count) in
-      let need = need_is ℕ old table 0 0 u x p.was k c within is in
+      let need = need_is old table u x p.was k c within is in
       let far = subst (λ (q : UnitData). k < inputs_in q.work → cursor_at q.work k ≡ Some c → need_in q.work k (computed_next_in old u) ≤ computed_in old c.list) unit_is (far_enough old u f k c) within is in
       omega (arith, need, far)
 

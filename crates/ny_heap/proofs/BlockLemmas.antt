@@ -40,7 +40,7 @@ put_back [] b o inside is = refl
 put_back (x ∷ xs) zero o inside is = ap (λ r. r ∷ xs) (sym is)
 put_back (x ∷ xs) (suc b) o inside is = ap (λ rs. x ∷ rs) (put_back xs b o (omega (arith, inside)) is)
 
-pub unchanged_unit : (units : List (Option UnitData)) (u : ℕ) (x : UnitData) (l : ℕ) → get_or units u None ≡ Some x → l ≡ x.list → set units u (Some (record { work = x.work; timing = x.timing; inputs = x.inputs; list = l })) ≡ units
+pub unchanged_unit : (units : List (Option UnitData)) (u : ℕ) (x : UnitData) (l : ℕ) → get_or units u None ≡ Some x → l ≡ x.list → set units u (Some (record { work = x.work; timing = x.timing; inputs = x.inputs; list = l; pending = x.pending })) ≡ units
 unchanged_unit units u x l there same =
-    ap (λ k. set units u (Some (record { work = x.work; timing = x.timing; inputs = x.inputs; list = k }))) same
+    ap (λ k. set units u (Some (record { work = x.work; timing = x.timing; inputs = x.inputs; list = k; pending = x.pending }))) same
     ∙ put_back units u (Some x) (place_within units u x there) there

@@ -29,8 +29,8 @@ use Rattle.ny_heap.specs.Filling.{CanFill, Computes}
 use Rattle.ny_heap.proofs.NeedLemmas.{taken_at}
 use Rattle.ny_heap.proofs.ListLemmas.{mark_is, len_is}
 use Rattle.ny_heap.proofs.CountLemmas.{own_one}
-use Rattle.ny_heap.proofs.ViewLemmas.{filled_is}
-use Rattle.ny_heap.proofs.FirstLemmas.{need_is, next_is}
+use Rattle.ny_heap.proofs.KeepLemmas.{filled_is}
+use Rattle.ny_heap.proofs.TakenLemmas.{need_is, next_is}
 use Rattle.ny_heap.proofs.AppendLemmas.{far_enough}
 use Rattle.ny_heap.proofs.MovesLemmas.{given_before}
 
@@ -100,7 +100,7 @@ module _ (t : Table) (u : ℕ) (f : CanFill t u) where
   done_all = omega (arith, done_is, inside_len)
 
   pub next_to : computed_next_in t u ≡ min ((filled_in t.store u + 1) * t.block) f.there.unit.timing.len
-  next_to = next_is ℕ t table 0 0 u x f.there.there
+  next_to = next_is t table u x f.there.there
 
   pub room : computed_next_in t u ≤ computed_in t u + t.block
   room = omega (arith, next_to, done_all)
@@ -145,7 +145,7 @@ module _ (t : Table) (u : ℕ) (f : CanFill t u) where
     passed = omega (arith, far_in, reads.2.computed, ap (λ b. min (length reads.0.values * b) reads.0.len) table.block)
 
     need : taken_after t.block (kind_of x.work) x.timing input (filled + 1) ≤ computed_in t c.list
-    need = omega (arith, far_enough t u f i c inside is, need_is ℕ t table 0 0 u x f.there.there i c inside is)
+    need = omega (arith, far_enough t u f i c inside is, need_is t table u x f.there.there i c inside is)
 
     -- as many samples are computed as there are of the need
     computed : (n : ℕ) → n ≤ computed_in t c.list → IsComputed t.store c (n - c.place)

@@ -1,5 +1,5 @@
 -- How many cursors stand in a block, and what a change of the lists alone leaves.
-use Rattle.std.proofs.Common.{◌≡◌, ℕ, suc, ◌+◌, ◌*◌, ◌<◌, ◌≤◌, ◌&&◌, min, nat_eq, cond, List, ◌∷◌, ◌++◌, length, get_or, Option, None, Some, IsSome, is_some, count_by, refl, sym, ap, subst, ◌∙◌, arith}
+use Rattle.std.proofs.Common.{◌≡◌, ℕ, suc, ◌+◌, ◌*◌, ◌<◌, ◌≤◌, ◌&&◌, min, nat_eq, cond, List, ◌∷◌, ◌++◌, length, get_or, slice_get, inl, inr, Option, None, Some, IsSome, is_some, count_by, refl, sym, ap, subst, ◌∙◌, arith}
 use Rattle.std.specs.List.{sum_by}
 use Rattle.std.specs.Option.{option_map, option_map_or}
 use Rattle.std.proofs.lemmas.List.Sums.{get_or-le-sum_by, sum_by-cons, sum_by-append}
@@ -12,10 +12,12 @@ use Rattle.std.proofs.lemmas.List.FromFn.{length-map-range_with_len}
 use Rattle.ny_heap.specs.declared.table.Unit.{Unit as UnitData}
 use Rattle.ny_heap.specs.declared.table.Table.{Table}
 use Rattle.ny_heap.specs.Heap.{Reader, is_reader, stands_in}
-use Rattle.ny_heap.specs.Work.{cursor_at, HasGiven}
-use Rattle.ny_heap.specs.Table.{unit_at, own_in, own_of, held_in, mark_in, len_of, stands_at, readers_of, input_of, timing_at, IsTable, IsUnit, IsInput, KeepsList}
+use Rattle.ny_heap.specs.declared.sound.Sound.{Sound}
+use Rattle.ny_heap.specs.Work.{cursor_at, kept_in, cursors_of_sounds, HasGiven}
+use Rattle.ny_heap.specs.Table.{unit_at, own_in, own_of, held_in, mark_in, len_of, stands_at, readers_of, input_of, timing_at, IsTable, IsUnit, IsInput, IsKept, KeepsList}
 use Rattle.ny_heap.proofs.TableLemmas.{place_within}
 use Rattle.ny_heap.proofs.ListLemmas.{Relists, len_kept, mark_is, len_is, mark_without, Relists-without}
+use Rattle.ny_heap.proofs.KeepLemmas.{kept_at, HoldsCursor, IsKept-to}
 
 pub with_store : Table → StoreState → Table
 with_store t s = record t { store = s }
@@ -60,6 +62,53 @@ own_one t u i x c there inside at =
     let of_x : f (get_or t.units.items u None) ≡ own_of t.block n c.list j x = ap f there in
     omega (arith, one, of_x, get_or-le-sum_by g (readers_of x) i None within, get_or-le-sum_by f t.units.items u None (place_within t.units.items u x there))
 
+-- and that of a sound that a part keeps
+pub kept_one : (t : Table) (u i : ℕ) (x : UnitData) (s : Sound) (c : CursorState) → unit_at t u ≡ Some x → slice_get (kept_in x.work) i ≡ Some s → s.reader ≡ Some c → 1 ≤ own_in t c.list (stands_in t.block (len_of t.store c.list) c.place)
+kept_one t u i x s c there at reads =
+    let n : ℕ = len_of t.store c.list in
+    let j : ℕ = stands_in t.block n c.place in
+    let g = stands_at t.block n c.list j in
+    let f = λ (o : Option UnitData). option_map_or {U = ℕ} (own_of t.block n c.list j) o 0 in
+    let is : get_or (cursors_of_sounds (kept_in x.work)) i None ≡ Some c = kept_at (kept_in x.work) i s at ∙ reads in
+    let one : g (get_or (cursors_of_sounds (kept_in x.work)) i None) ≡ 1 = ap g is ∙ both_same c.list j in
+    let of_x : f (get_or t.units.items u None) ≡ own_of t.block n c.list j x = ap f there in
+    omega (arith, one, of_x, get_or-le-sum_by g (cursors_of_sounds (kept_in x.work)) i None (place_within (cursors_of_sounds (kept_in x.work)) i c is), get_or-le-sum_by f t.units.items u None (place_within t.units.items u x there))
+
+-- so of each cursor of a unit
+pub holds_one : (t : Table) (u : ℕ) (x : UnitData) (c : CursorState) → unit_at t u ≡ Some x → HoldsCursor x c → 1 ≤ own_in t c.list (stands_in t.block (len_of t.store c.list) c.place)
+holds_one t u x c there (inl r) = own_one t u r.0 x c there r.1 r.2
+holds_one t u x c there (inr k) = kept_one t u k.0 x k.1 c there k.2 k.3
+
+-- its list is there
+pub holds_list : (t : Table) (cs : List (Option CursorState)) (u : ℕ) (x : UnitData) (c : CursorState) → IsTable t cs → unit_at t u ≡ Some x → HoldsCursor x c → IsSome (list_at t.store c.list)
+holds_list t cs u x c table there (inl r) = let l = table.units u x there in let a = table.inputs u r.0 x l.0 c there l.1 r.1 r.2 in is_some_of _ a.0 a.1
+holds_list t cs u x c table there (inr k) = ((table.kept u k.0 x k.1 there k.2).some c k.3).0
+
+-- and it stands lower
+pub holds_lower : (t : Table) (cs : List (Option CursorState)) (u : ℕ) (x : UnitData) (c : CursorState) (table : IsTable t cs) → unit_at t u ≡ Some x → HoldsCursor x c → table.rank c.list < table.rank u
+holds_lower t cs u x c table there (inl r) = table.falls u r.0 x c there r.1 r.2
+holds_lower t cs u x c table there (inr k) = table.keeps_lower u k.0 x k.1 c there k.2 k.3
+
+-- other cursors in hand
+pub IsTable-hand : (t : Table) (cs ds : List (Option CursorState)) → IsTable t cs → ((i : ℕ) (c : CursorState) → get_or ds i None ≡ Some c → IsSome (list_at t.store c.list))
+    → ((v j : ℕ) (l : ListState) → list_at t.store v ≡ Some l → held_in t ds v j ≤ held_in t cs v j) → IsTable t ds
+IsTable-hand t cs ds table there less = record {
+  store = table.store;
+  block = table.block;
+  loose = table.loose;
+  units = table.units;
+  lists = table.lists;
+  inputs = table.inputs;
+  kept = table.kept;
+  held = there;
+  counted = λ v j l is. omega (arith, table.counted v j l is, less v j l is);
+  rank = table.rank;
+  bound = table.bound;
+  below = table.below;
+  falls = table.falls;
+  keeps_lower = table.keeps_lower;
+}
+
 IsUnit-kept : (t : Table) (s : StoreState) (v : ℕ) (x : UnitData) (k l : ListState) → KeepsList k l → IsUnit t v x k → IsUnit (record t { store = s }) v x l
 IsUnit-kept t s v x k l keeps u = record {
   end = u.end;
@@ -72,6 +121,8 @@ IsUnit-kept t s v x k l keeps u = record {
   brings = u.brings;
   hears = u.hears;
   given = subst (λ n. HasGiven x.work x.timing.len (min (n * t.block) x.timing.len)) (sym keeps.filled) u.given;
+  places = u.places;
+  timings = u.timings;
 }
 
 IsInput-kept : (t : Table) (s : StoreState) (x : UnitData) (i : ℕ) (c : CursorState) (k l : ListState) → KeepsList k l → IsInput t x i c k → IsInput (record t { store = s }) x i c l
@@ -81,6 +132,12 @@ IsInput-kept t s x i c k l keeps u = record {
   visible = subst (λ z. c.visible ≤ z) (sym keeps.len) u.visible;
   computed = subst (λ z. c.place ≤ z) (ap (λ z. min (z * t.block) k.len) (sym keeps.filled) ∙ ap (min (length l.values * t.block)) (sym keeps.len)) u.computed;
 }
+
+-- a sound that is kept where lists are others
+IsKept-relisted : (t : Table) (s : StoreState) (q : Sound) → Relists t.store s → IsKept t q → IsKept (record t { store = s }) q
+IsKept-relisted t s q r k =
+    IsKept-to t (record t { store = s }) q
+    (λ c is there. let l = some_is (list_at t.store c.list) there in let n = r.to c.list l.0 l.1 in (is_some_of _ n.0 n.1, len_kept t.store s c.list n.0 r n.1)) k
 
 -- other lists, and other cursors in hand
 pub IsTable-relisted : (t : Table) (s : StoreState) (cs ds : List (Option CursorState)) → IsTable t cs → Relists t.store s → StoreLaws s
@@ -98,6 +155,7 @@ IsTable-relisted t s cs ds table r laws there counted = record {
       let a = table.inputs v i x b.0 c is b.1 inside at in
       let n = r.to c.list a.0 a.1 in
       (n.0, n.1, IsInput-kept t s x i c a.0 n.0 n.2 a.2);
+  kept = λ v i x q is at. IsKept-relisted t s q r (table.kept v i x q is at);
   held = λ i c is. let l = some_is (list_at t.store c.list) (there i c is) in let n = r.to c.list l.0 l.1 in is_some_of _ n.0 n.1;
   counted = λ v j l is.
       let b = r.back v l is in
@@ -107,6 +165,7 @@ IsTable-relisted t s cs ds table r laws there counted = record {
   bound = table.bound;
   below = table.below;
   falls = table.falls;
+  keeps_lower = table.keeps_lower;
 }
 
 -- ---- a cursor leaves

@@ -1,9 +1,10 @@
 -- What goes with the last cursor of a list.
-use Rattle.std.proofs.Common.{◌≡◌, ◌≢◌, IsTrue, inl, inr, ℕ, zero, suc, ◌+◌, ◌-◌, ◌*◌, ◌<◌, ◌≤◌, min, Bool, true, false, List, [], ◌∷◌, ◌++◌, length, get_or, set, Option, None, Some, IsSome, is_some, count_by, refl, sym, ap, subst, ◌∙◌, arith, length-set, cond, append-nil}
-use Rattle.std.specs.List.{sum_by}
+use Rattle.std.proofs.Common.{◌≡◌, ◌≢◌, IsTrue, inl, inr, ℕ, zero, suc, ◌+◌, ◌-◌, ◌*◌, ◌<◌, ◌≤◌, min, Bool, true, false, List, [], ◌∷◌, ◌++◌, length, map, get_or, slice_get, set, Option, None, Some, IsSome, is_some, count_by, refl, sym, ap, subst, ◌∙◌, arith, length-set, cond, append-nil}
+use Rattle.std.specs.List.{sum_by, range_with_len}
 use Rattle.std.specs.Option.{option_map_or}
 use Rattle.std.proofs.lemmas.List.{get_or-set_same, get_or-set_other, get_or_append_left, get_or-append_right}
 use Rattle.std.proofs.lemmas.List.Sums.{sum_by-set}
+use Rattle.std.proofs.lemmas.List.FromFn.{length-map-range_with_len}
 use Rattle.std.proofs.lemmas.Bool.{cases_eq, cases_lt}
 use Rattle.ny_list.specs.Store.{ListState, StoreState, CursorState, list_at, cursors_of}
 use Rattle.ny_list.specs.Steps.{without_cursor}
@@ -13,12 +14,14 @@ use Rattle.ny_heap.specs.declared.table.Unit.{Unit as UnitData}
 use Rattle.ny_heap.specs.declared.table.Table.{Table}
 use Rattle.ny_heap.specs.declared.work.Work.{Work}
 use Rattle.ny_heap.specs.Heap.{stands_in}
-use Rattle.ny_heap.specs.Work.{cursor_at, inputs_in, without_cursor_at}
-use Rattle.ny_heap.specs.Table.{unit_at, own_in, own_of, held_in, mark_in, len_of, stands_at, rest_of, IsTable, IsUnit, IsInput, IsRead, Drops, Removes, IsThere, present}
+use Rattle.ny_heap.specs.declared.sound.Sound.{Sound}
+use Rattle.ny_heap.specs.Work.{cursor_at, inputs_in, without_cursor_at, kept_in, cursors_of_sounds}
+use Rattle.ny_heap.specs.Table.{unit_at, own_in, own_of, held_in, mark_in, len_of, stands_at, rest_of, IsTable, IsUnit, IsInput, IsKept, IsRead, Drops, Removes, IsThere, present}
 use Rattle.ny_heap.proofs.TableLemmas.{place_within}
 use Rattle.ny_heap.proofs.ListLemmas.{Relists, len_kept, mark_is, len_is, list_within, list_here, list_other, KeepsList-same, KeepsList-then}
 use Rattle.ny_heap.proofs.RestLemmas.{own_rest, rest_more, rest_done, rest_without, same_count}
-use Rattle.ny_heap.proofs.CountLemmas.{some_is, is_some_of, own_kept, held_one, own_one, held_cons, held_append, left_is, Relists-left, IsTable-left}
+use Rattle.ny_heap.proofs.KeepLemmas.{HoldsCursor, cursor_kept, IsKept-to}
+use Rattle.ny_heap.proofs.CountLemmas.{some_is, is_some_of, own_kept, held_one, holds_one, holds_list, held_cons, held_append, left_is, Relists-left, IsTable-left, IsTable-hand}
 
 -- ---- what is there
 
@@ -90,10 +93,10 @@ module _ (t new : Table) (v : ℕ) (work : Work) (r : Removes t new v work) wher
     no_mark : cursors_of l ≡ 0 → (j : ℕ) → mark_in t.store v j ≡ 0
     no_mark unread j = omega (arith, mark_is t.store v j l listed, sum_at l.marks j, unread)
 
-    not_read : (cs : List (Option CursorState)) → IsTable t cs → cursors_of l ≡ 0 → (u i : ℕ) (x : UnitData) (c : CursorState) → unit_at t u ≡ Some x → i < length x.inputs.items → cursor_at x.work i ≡ Some c → c.list ≢ v
-    not_read cs table unread u i x c there inside at e =
+    not_used : (cs : List (Option CursorState)) → IsTable t cs → cursors_of l ≡ 0 → (u : ℕ) (x : UnitData) (c : CursorState) → unit_at t u ≡ Some x → HoldsCursor x c → c.list ≢ v
+    not_used cs table unread u x c there holds e =
         let j : ℕ = stands_in t.block (len_of t.store c.list) c.place in
-        omega (arith, own_one t u i x c there inside at, table.counted c.list j l (ap (list_at t.store) e ∙ listed), ap (λ w. mark_in t.store w j) e, no_mark unread j)
+        omega (arith, holds_one t u x c there holds, table.counted c.list j l (ap (list_at t.store) e ∙ listed), ap (λ w. mark_in t.store w j) e, no_mark unread j)
 
     not_held : (cs : List (Option CursorState)) → IsTable t cs → cursors_of l ≡ 0 → (i : ℕ) (c : CursorState) → get_or cs i None ≡ Some c → c.list ≢ v
     not_held cs table unread i c is e =
@@ -114,7 +117,10 @@ module _ (t new : Table) (v : ℕ) (work : Work) (r : Removes t new v work) wher
           let b = unit_back w y is in
           let kb = list_back w k at_list in
           let a = table.inputs w i y k c b.1 kb.1 inside at in
-          (a.0, list_else c.list (not_read cs table unread w i y c b.1 inside at) ∙ a.1, input_same y i c a.0 a.2);
+          (a.0, list_else c.list (not_used cs table unread w y c b.1 (inl (i, inside, at))) ∙ a.1, input_same y i c a.0 a.2);
+      kept = λ w i y s is at.
+          let b = unit_back w y is in
+          IsKept-to t new s (λ c reads there. let ne = not_used cs table unread w y c b.1 (inr (i, s, at, reads)) in (subst (λ o. IsSome o) (sym (list_else c.list ne)) there, same_len c.list ne)) (table.kept w i y s b.1 at);
       held = λ i c is. elim (cases_lt i (length (rest_of work 0))) [
         | inl h ↦ held_first i c (sym (get_or_append_left (rest_of work 0) cs None i h) ∙ is)
         | inr past ↦ held_second (i - length (rest_of work 0)) c (sym (get_or-append_right (rest_of work 0) cs (length (rest_of work 0)) i None refl past) ∙ is)
@@ -134,6 +140,7 @@ module _ (t new : Table) (v : ℕ) (work : Work) (r : Removes t new v work) wher
       bound = table.bound;
       below = λ w y is. table.below w y (unit_back w y is).1;
       falls = λ w i y c is inside at. table.falls w i y c (unit_back w y is).1 inside at;
+      keeps_lower = λ w i y s c is at reads. table.keeps_lower w i y s c (unit_back w y is).1 at reads;
     }
       where
         unit_same : (w : ℕ) (y : UnitData) (k : ListState) → IsUnit t w y k → IsUnit new w y k
@@ -148,6 +155,8 @@ module _ (t new : Table) (v : ℕ) (work : Work) (r : Removes t new v work) wher
           brings = u.brings;
           hears = u.hears;
           given = subst (λ b. Rattle.ny_heap.specs.Work.HasGiven y.work y.timing.len (min (length k.values * b) y.timing.len)) (sym r.block) u.given;
+          places = u.places;
+          timings = u.timings;
         }
 
         input_same : (y : UnitData) (i : ℕ) (c : CursorState) (k : ListState) → IsInput t y i c k → IsInput new y i c k
@@ -161,16 +170,29 @@ module _ (t new : Table) (v : ℕ) (work : Work) (r : Removes t new v work) wher
         held_second : (i : ℕ) (c : CursorState) → get_or cs i None ≡ Some c → IsSome (list_at new.store c.list)
         held_second i c is = let k = some_is (list_at t.store c.list) (table.held i c is) in is_some_of _ k.0 (list_else c.list (not_held cs table unread i c is) ∙ k.1)
 
-        held_first : (i : ℕ) (c : CursorState) → get_or (rest_of work 0) i None ≡ Some c → IsSome (list_at new.store c.list)
-        held_first i c is =
+        reads : List (Option CursorState)
+        reads = map (cursor_at work) (range_with_len 0 (inputs_in work - 0))
+
+        was_reads : (i : ℕ) (c : CursorState) → get_or reads i None ≡ Some c → HoldsCursor r.was c
+        was_reads i c is =
             let u = table.units v r.was r.there in
             let n : ℕ = inputs_in work - 0 in
-            let inside : i < n = omega (arith, place_within (rest_of work 0) i c is, Rattle.std.proofs.lemmas.List.FromFn.length-map-range_with_len (cursor_at work) 0 n) in
+            let inside : i < n = omega (arith, place_within reads i c is, length-map-range_with_len (cursor_at work) 0 n) in
             let count : length r.was.inputs.items ≡ inputs_in work = u.2.count ∙ ap inputs_in r.does in
             let within : i < length r.was.inputs.items = omega (arith, inside, count) in
-            let at : cursor_at r.was.work i ≡ Some c = ap (λ k. cursor_at k i) r.does ∙ sym (tab_get (cursor_at work) n i None inside) ∙ is in
-            let a = table.inputs v i r.was u.0 c r.there u.1 within at in
-            is_some_of _ a.0 (list_else c.list (not_read cs table unread v i r.was c r.there within at) ∙ a.1)
+            inl (i, within, ap (λ k. cursor_at k i) r.does ∙ sym (tab_get (cursor_at work) n i None inside) ∙ is)
+
+        was_keeps : (i : ℕ) (c : CursorState) → get_or (cursors_of_sounds (kept_in work)) i None ≡ Some c → HoldsCursor r.was c
+        was_keeps i c is = let s = cursor_kept (kept_in work) i c is in inr (i, s.0, ap (λ k. slice_get (kept_in k) i) r.does ∙ s.1, s.2)
+
+        holds_still : (c : CursorState) → HoldsCursor r.was c → IsSome (list_at new.store c.list)
+        holds_still c holds = subst (λ o. IsSome o) (sym (list_else c.list (not_used cs table unread v r.was c r.there holds))) (holds_list t cs v r.was c table r.there holds)
+
+        held_first : (i : ℕ) (c : CursorState) → get_or (rest_of work 0) i None ≡ Some c → IsSome (list_at new.store c.list)
+        held_first i c is = elim (cases_lt i (length reads)) [
+          | inl h ↦ holds_still c (was_reads i c (sym (get_or_append_left reads (cursors_of_sounds (kept_in work)) None i h) ∙ is))
+          | inr past ↦ holds_still c (was_keeps (i - length reads) c (sym (get_or-append_right reads (cursors_of_sounds (kept_in work)) (length reads) i None refl past) ∙ is))
+        ]
 
 -- ---- steps of a removal
 
@@ -256,20 +278,7 @@ Drops-removed t mid new c work l table e laws r listed unread others = subst (λ
 -- ---- one step after another
 
 IsTable-skip : (t : Table) (cs : List (Option CursorState)) → IsTable t (None ∷ cs) → IsTable t cs
-IsTable-skip t cs table = record {
-  store = table.store;
-  block = table.block;
-  loose = table.loose;
-  units = table.units;
-  lists = table.lists;
-  inputs = table.inputs;
-  held = λ i c is. table.held (suc i) c is;
-  counted = λ v j l is. omega (arith, table.counted v j l is, held_cons t None cs v j);
-  rank = table.rank;
-  bound = table.bound;
-  below = table.below;
-  falls = table.falls;
-}
+IsTable-skip t cs table = IsTable-hand t (None ∷ cs) cs table (λ i c is. table.held (suc i) c is) (λ v j l is. omega (arith, held_cons t None cs v j))
 
 -- an input that reads nothing
 pub Drops-skip : (t b : Table) (spent rest : List (Option CursorState)) → Drops t b spent (None ∷ rest) → Drops t b spent rest
@@ -310,6 +319,25 @@ Drops-then t b e o spent rest table d f = record {
     gone_in w j k is none None mid = d.gone w j k is mid
     gone_in w j k is none (Some x) mid =
         omega (arith, f.gone w j x mid none, d.others w j x mid, table.counted w j x mid, held_cons b o rest w j, held_cons b o [] w j)
+
+-- so of steps in general
+pub Drops-chain : (t b e : Table) (spent mid left : List (Option CursorState)) → Drops t b spent mid → Drops b e mid left → Drops t e spent left
+Drops-chain t b e spent mid left d f = record {
+  table = λ cs whole. f.table cs (d.table cs whole);
+  read = λ read. f.read (d.read read);
+  fewer = omega (arith, d.fewer, f.fewer);
+  block = f.block ∙ d.block;
+  pool = f.pool ∙ d.pool;
+  slots = f.slots ∙ d.slots;
+  kept = λ w y is. d.kept w y (f.kept w y is);
+  lists = λ w l is. let k = f.lists w l is in let h = d.lists w k.0 k.1 in (h.0, h.1, KeepsList-then h.0 k.0 l h.2 k.2);
+  others = λ w j l is. let k = f.lists w l is in omega (arith, f.others w j l is, d.others w j k.0 k.1);
+  gone = λ w j k is none. gone_in w j k is none (list_at b.store w) refl;
+}
+  where
+    gone_in : (w j : ℕ) (k : ListState) → list_at t.store w ≡ Some k → list_at e.store w ≡ None → (p : Option ListState) → list_at b.store w ≡ p → mark_in t.store w j ≡ own_in t w j + held_in t spent w j
+    gone_in w j k is none None at = d.gone w j k is at
+    gone_in w j k is none (Some x) at = omega (arith, f.gone w j x at none, d.others w j x at)
 
 -- ---- lists that are still read
 
@@ -375,20 +403,7 @@ Removing-begun t new c s v count work b table e laws same test no_more r counts 
     }
 
 pub IsTable-first : (t : Table) (o : Option CursorState) (cs : List (Option CursorState)) → IsTable t (o ∷ cs) → IsTable t (o ∷ [])
-IsTable-first t o cs table = record {
-  store = table.store;
-  block = table.block;
-  loose = table.loose;
-  units = table.units;
-  lists = table.lists;
-  inputs = table.inputs;
-  held = held;
-  counted = λ v j l is. omega (arith, table.counted v j l is, held_cons t o cs v j, held_cons t o [] v j);
-  rank = table.rank;
-  bound = table.bound;
-  below = table.below;
-  falls = table.falls;
-}
+IsTable-first t o cs table = IsTable-hand t (o ∷ cs) (o ∷ []) table held (λ v j l is. omega (arith, held_cons t o cs v j, held_cons t o [] v j))
   where
     held : (i : ℕ) (c : CursorState) → get_or (o ∷ []) i None ≡ Some c → IsSome (list_at t.store c.list)
     held zero c is = table.held 0 c is
@@ -426,5 +441,12 @@ Removing-none t now c work after count i r inside is e = record {
   within = omega (arith, inside);
 }
 
-pub Removing-done : (t now : Table) (c : CursorState) (work : Work) (count i : ℕ) → Removing t now c work count i → count ≤ i → Drops t now (Some c ∷ []) []
-Removing-done t now c work count i r past = subst (Drops t now (Some c ∷ [])) (rest_done work i (omega (arith, past, r.counts))) r.drops
+-- what it read is spent, and what its parts that wait keep is in hand
+Removing-read : (t now : Table) (c : CursorState) (work : Work) (count i : ℕ) → Removing t now c work count i → count ≤ i → Drops t now (Some c ∷ []) (cursors_of_sounds (kept_in work))
+Removing-read t now c work count i r past = subst (Drops t now (Some c ∷ [])) (rest_done work i (omega (arith, past, r.counts))) r.drops
+
+pub Removing-kept : (t now : Table) (c : CursorState) (work : Work) (count i : ℕ) → IsTable t (Some c ∷ []) → Removing t now c work count i → count ≤ i → IsTable now (cursors_of_sounds (kept_in work))
+Removing-kept t now c work count i table r past = subst (IsTable now) (append-nil (cursors_of_sounds (kept_in work))) ((Removing-read t now c work count i r past).table [] table)
+
+pub Removing-done : (t now new : Table) (c : CursorState) (work : Work) (count i : ℕ) → Removing t now c work count i → count ≤ i → Drops now new (cursors_of_sounds (kept_in work)) [] → Drops t new (Some c ∷ []) []
+Removing-done t now new c work count i r past d = Drops-chain t now new (Some c ∷ []) (cursors_of_sounds (kept_in work)) [] (Removing-read t now c work count i r past) d

@@ -1,7 +1,7 @@
 -- What holds once a unit has filled a block.
 use Rattle.std.proofs.Common.{◌≡◌, ◌≢◌, inl, inr, ℕ, ◌+◌, ◌<◌, ◌≤◌, ◌&&◌, nat_lt, cond, Bool, true, false, List, [], length, Option, None, Some, refl, sym, ap, subst, ◌∙◌, arith, ℤ}
 use Rattle.std.specs.Option.{option_map}
-use Rattle.std.proofs.lemmas.Bool.{cases_eq, cases_lt, lt-ltb, ltb-true, and_parts}
+use Rattle.std.proofs.lemmas.Bool.{cases_eq, cases_lt, lt-ltb, le-ltb, ltb-true, and_parts}
 use Rattle.ny_num.specs.declared.timing.Timing.{Timing}
 use Rattle.ny_list.specs.Store.{ListState, CursorState, list_at}
 use Rattle.ny_list.proofs.IndexLemmas.{same_some, none_some}
@@ -9,9 +9,9 @@ use Rattle.ny_units.specs.Inputs.{IsReader}
 use Rattle.ny_heap.specs.declared.table.Unit.{Unit as UnitData}
 use Rattle.ny_heap.specs.declared.table.Table.{Table}
 use Rattle.ny_heap.specs.Heap.{Reader, blocks_of, taken_after}
-use Rattle.ny_heap.specs.Work.{kind_of, inputs_in, source_at, cursor_at, memory_in}
+use Rattle.ny_heap.specs.Work.{kind_of, inputs_in, source_at, cursor_at, memory_in, waits_in}
 use Rattle.ny_heap.specs.Table.{unit_at, timing_at, input_of}
-use Rattle.ny_heap.specs.View.{filled_in, outside_in, IsHeap}
+use Rattle.ny_heap.specs.View.{filled_in, outside_in, HaveBranches, IsHeap}
 use Rattle.ny_heap.specs.Filling.{CanFill, Computes, Appends, Settles, FillsBlock, moved_in}
 use Rattle.ny_heap.proofs.NeedLemmas.{taken_rises}
 use Rattle.ny_heap.proofs.ViewLemmas.{filled_is}
@@ -179,8 +179,23 @@ module _ (old new : Table) (u : ℕ) (out : List ℤ) (f : CanFill old u) (fills
           (ap (moved_in old.block x (filled_in old.store u + 1)) (sym (ap (option_map {U = Reader} (λ d. record { node = d.list; place = d.place; timing = timing_at x i })) is))
           ∙ sym (input_now i inside) ∙ ap (option_map {U = Reader} (λ d. record { node = d.list; place = d.place; timing = timing_at x i })) none) still
 
-  pub IsHeap-fills : IsHeap new
-  IsHeap-fills = record {
+  -- once its last block is filled it waits for nothing
+  waits_for_nothing : blocks_of old.block fills.computes.unit.timing.len ≤ filled_in old.store u + 1 → waits_in fills.settles.now.work ≡ []
+  waits_for_nothing full = fills.waits ∙ ap (λ b. cond b (waits_in fills.computes.unit.work) []) (le-ltb (filled_in old.store u + 1) (blocks_of old.block fills.computes.unit.timing.len) full)
+
+  -- what waits still has its branches
+  pub have_filled : (B : Type 0) (bs : ℕ → List B) → HaveBranches bs old → HaveBranches bs new
+  have_filled B bs have w y at = elim (cases_eq w u) [
+    | inl e ↦ subst (λ v. length (waits_in y.work) ≤ length (bs v)) (sym e) (subst (λ (k : UnitData). length (waits_in k.work) ≤ length (bs u)) (sym (unit_same w y e at)) (subst (λ wss. length wss ≤ length (bs u)) (sym fills.waits) (few (nat_lt (filled_in old.store u + 1) (blocks_of old.block fills.computes.unit.timing.len)))))
+    | inr ne ↦ have w y (other_was w y ne at)
+  ]
+    where
+      few : (b : Bool) → length (cond b (waits_in fills.computes.unit.work) []) ≤ length (bs u)
+      few true = have u x p.was
+      few false = omega arith
+
+  pub IsHeap-fills : fills.computes.unit.pending ≡ 0 → IsHeap new
+  IsHeap-fills pending = record {
     table = fills.table;
     read = fills.read;
     clean = λ w i y c at inside is. elim (cases_eq w u) [
@@ -211,6 +226,14 @@ module _ (old new : Table) (u : ℕ) (out : List ℤ) (f : CanFill old u) (fills
       | inr ne ↦
           subst (λ n. (timing_at y i).len ≤ n) (taken_other w i y ne at)
           (f.heap.exhausted w i y (other_was w y ne at) inside reader none (subst (λ n. n < blocks_of old.block y.timing.len) (other_filled w y ne at) (subst (λ b. filled_in new.store w < blocks_of b y.timing.len) block_same still)))
+    ];
+    waits = λ w y at full. elim (cases_eq w u) [
+      | inl e ↦
+          let same = unit_same w y e at in
+          let full_now : blocks_of old.block x.timing.len ≤ filled_in old.store u + 1 =
+          subst (λ n. blocks_of old.block x.timing.len ≤ n) filled_new (subst (λ b. blocks_of b x.timing.len ≤ filled_in new.store u) block_same (subst (λ (k : UnitData). blocks_of new.block k.timing.len ≤ filled_in new.store u) same (subst (λ v. blocks_of new.block y.timing.len ≤ filled_in new.store v) e full))) in
+          (ap (λ (k : UnitData). waits_in k.work) same ∙ waits_for_nothing full_now, ap (λ (k : UnitData). k.pending) same ∙ pending)
+      | inr ne ↦ f.heap.waits w y (other_was w y ne at) (subst (λ b. blocks_of b y.timing.len ≤ filled_in old.store w) block_same (subst (λ n. blocks_of new.block y.timing.len ≤ n) (other_filled w y ne at) full))
     ];
   }
 

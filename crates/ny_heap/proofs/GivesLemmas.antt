@@ -26,7 +26,7 @@ use Rattle.ny_heap.specs.Table.{input_of, timing_at}
 use Rattle.ny_heap.specs.Filling.{moved_in}
 use Rattle.ny_heap.proofs.PartLemmas.{sum_alike}
 use Rattle.ny_heap.proofs.NeedLemmas.{taken_at, none_taken}
-use Rattle.ny_heap.proofs.FirstLemmas.{first_timing}
+use Rattle.ny_heap.proofs.TakenLemmas.{first_timing}
 use Rattle.ny_heap.proofs.FillLemmas.{moved_some, moved_none}
 use Rattle.ny_heap.proofs.ValueLemmas.{known_before, known_after, known_else, between_same, asks_late}
 

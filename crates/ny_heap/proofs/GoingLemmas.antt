@@ -8,12 +8,12 @@ use Rattle.ny_units.specs.Inputs.{IsReader}
 use Rattle.ny_heap.specs.declared.table.Unit.{Unit as UnitData}
 use Rattle.ny_heap.specs.declared.table.Table.{Table}
 use Rattle.ny_heap.specs.Heap.{Reader, blocks_of, taken_after}
-use Rattle.ny_heap.specs.Work.{kind_of, memory_in, inputs_in, source_at, cursor_at}
+use Rattle.ny_heap.specs.Work.{kind_of, memory_in, inputs_in, source_at, cursor_at, waits_in}
 use Rattle.ny_heap.specs.Table.{unit_at, timing_at, input_of, mark_in, own_in}
 use Rattle.ny_heap.specs.View.{filled_in}
 use Rattle.ny_heap.specs.Filling.{HasInput, moved_in, Settling, Settles}
 use Rattle.ny_heap.proofs.ListLemmas.{KeepsList-same, KeepsList-then}
-use Rattle.ny_heap.proofs.ViewLemmas.{filled_is}
+use Rattle.ny_heap.proofs.KeepLemmas.{filled_is}
 
 -- ---- an input that reads nothing
 
@@ -49,6 +49,7 @@ Settles-same t u i j x at none = record {
       ap f (none k from to) ∙ sym (ap (λ (o : Option CursorState). moved_in t.block x (filled_in t.store u) (f o)) (none k from to));
   outside = λ k out within. refl;
   sources = λ k within is. is;
+  waits = inl refl;
   block = refl;
   pool = refl;
   slots = refl;
@@ -70,7 +71,7 @@ moved_like block filled x y (Some r) timing kind = λ j. cond (nat_lt filled (bl
 input_like : (x y : UnitData) (k : ℕ) → timing_at x k ≡ timing_at y k → cursor_at x.work k ≡ cursor_at y.work k → input_of x k ≡ input_of y k
 input_like x y k timing cursor = λ j. option_map {U = Reader} (λ c. record { node = c.list; place = c.place; timing = timing j }) (cursor j)
 
-module _ (a b c : Table) (u i : ℕ) (p : Settles a b u 0 i) (q : Settles b c u i (i + 1)) (filled : filled_in b.store u ≡ filled_in a.store u) where
+module _ (a b c : Table) (u i n : ℕ) (less : i ≤ n) (p : Settles a b u 0 i) (q : Settles b c u i n) (filled : filled_in b.store u ≡ filled_in a.store u) where
   mid : p.now ≡ q.was
   mid = same_some (sym p.after ∙ q.there)
 
@@ -92,7 +93,18 @@ module _ (a b c : Table) (u i : ℕ) (p : Settles a b u 0 i) (q : Settles b c u 
       ∙ (λ j. moved_in (p.block j) p.now (filled j) (input_of p.now k))
       ∙ moved_like a.block (filled_in a.store u) p.now p.was (input_of p.now k) (ap (λ (z : UnitData). z.timing) p.is) p.kind
 
-  pub Settles-then : Settles a c u 0 (i + 1)
+  past_then : blocks_of b.block q.was.timing.len ≤ filled_in b.store u → blocks_of a.block p.was.timing.len ≤ filled_in a.store u
+  past_then past =
+      let len : q.was.timing.len ≡ p.was.timing.len = ap (λ (z : UnitData). z.timing.len) (sym mid) ∙ ap (λ (z : UnitData). z.timing.len) p.is in
+      subst (λ (k : ℕ × ℕ × ℕ). blocks_of k.0 k.1 ≤ k.2) (λ j. (p.block j, len j, filled j)) past
+
+  waits_then : (waits_in p.now.work ≡ waits_in p.was.work) ⊎ (blocks_of a.block p.was.timing.len ≤ filled_in a.store u) → (waits_in q.now.work ≡ waits_in q.was.work) ⊎ (blocks_of b.block q.was.timing.len ≤ filled_in b.store u)
+      → (waits_in q.now.work ≡ waits_in p.was.work) ⊎ (blocks_of a.block p.was.timing.len ≤ filled_in a.store u)
+  waits_then (inl first) (inl next) = inl (next ∙ ap (λ (z : UnitData). waits_in z.work) (sym mid) ∙ first)
+  waits_then (inl first) (inr past) = inr (past_then past)
+  waits_then (inr past) next = inr past
+
+  pub Settles-then : Settles a c u 0 n
   Settles-then = record {
     was = p.was;
     there = p.there;
@@ -110,6 +122,7 @@ module _ (a b c : Table) (u i : ℕ) (p : Settles a b u 0 i) (q : Settles b c u 
           ∙ ap (moved_in a.block p.was (filled_in a.store u)) (input_like p.now p.was k (timing_p k) (p.outside k (inr last) within))
     ];
     outside = λ k out within. outside k out within;
+    waits = waits_then p.waits q.waits;
     sources = λ k within is. p.sources k within (subst (λ (z : UnitData). IsReader (source_at z.work k)) (sym mid) (q.sources k (within_q k within) is));
     block = q.block ∙ p.block;
     pool = q.pool ∙ p.pool;
@@ -120,10 +133,10 @@ module _ (a b c : Table) (u i : ℕ) (p : Settles a b u 0 i) (q : Settles b c u 
     gone = λ w j k is none. gone w j k is none (list_at b.store w) refl;
   }
     where
-      outside : (k : ℕ) → (k < 0) ⊎ (i + 1 ≤ k) → k < length p.was.inputs.items → cursor_at q.now.work k ≡ cursor_at p.was.work k
+      outside : (k : ℕ) → (k < 0) ⊎ (n ≤ k) → k < length p.was.inputs.items → cursor_at q.now.work k ≡ cursor_at p.was.work k
       outside k (inl none) within = absurd (omega (arith, none))
       outside k (inr after) within =
-          q.outside k (inr after) (within_q k within) ∙ ap (λ (z : UnitData). cursor_at z.work k) (sym mid) ∙ p.outside k (inr (omega (arith, after))) within
+          q.outside k (inr after) (within_q k within) ∙ ap (λ (z : UnitData). cursor_at z.work k) (sym mid) ∙ p.outside k (inr (omega (arith, after, less))) within
 
       gone : (w j : ℕ) (k : ListState) → list_at a.store w ≡ Some k → list_at c.store w ≡ None → (o : Option ListState) → list_at b.store w ≡ o → mark_in a.store w j ≡ own_in a w j
       gone w j k is none None e = p.gone w j k is e
@@ -163,7 +176,7 @@ module _ (start t : Table) (u count i : ℕ) (g : Going start t u count i) where
       filled_is t.store u l.0 l.1 ∙ k.2.filled ∙ sym (filled_is start.store u k.0 k.1)
 
   pub Going-more : (new : Table) → Settling new u (i + 1) → Settles t new u i (i + 1) → Going start new u count (i + 1)
-  Going-more new s q = record { settling = s; settles = Settles-then start t new u i g.settles q filled_then; counts = g.counts }
+  Going-more new s q = record { settling = s; settles = Settles-then start t new u i (i + 1) (omega arith) g.settles q filled_then; counts = g.counts }
 
   pub Going-done : (x : UnitData) → unit_at start u ≡ Some x → count ≤ i → i ≤ count → Settles start t u 0 (inputs_in x.work)
   Going-done x at past upto = let e : i ≡ inputs_in x.work = omega (arith, past, upto, (g.counts x at).0) in subst (Settles start t u 0) e g.settles

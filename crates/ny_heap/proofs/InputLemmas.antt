@@ -18,11 +18,12 @@ use Rattle.ny_heap.specs.declared.table.Table.{Table}
 use Rattle.ny_heap.specs.declared.work.Work.{Work}
 use Rattle.ny_heap.specs.declared.work.Work.TheVariants.{Leaf as LeafWork, Pair as PairWork, Abs as AbsWork, Resample as ResampleWork, Filter as FilterWork, Mix as MixWork, Channel as ChannelWork}
 use Rattle.ny_heap.specs.Heap.{Reader, is_reader}
-use Rattle.ny_heap.specs.Work.{kind_of, inputs_in, memory_in, source_at, with_source, cursor_at, without_cursor_at, with_cursor_at, HasGiven}
+use Rattle.ny_heap.specs.Work.{kind_of, inputs_in, memory_in, source_at, with_source, cursor_at, without_cursor_at, with_cursor_at, cursors_of_sounds, HasGiven}
 use Rattle.ny_heap.specs.Tasks.{IsSide, HasSides, BeginsAt, BringsFrom, Hears}
 use Rattle.ny_heap.specs.Table.{unit_at, timing_at, input_of, readers_of, own_of, own_in, len_of, stands_at}
 use Rattle.ny_heap.proofs.TableLemmas.{place_within}
 use Rattle.ny_heap.proofs.PartLemmas.{part_here, part_else, part_twice}
+use Rattle.ny_heap.proofs.KeepLemmas.{kept_wired}
 use Rattle.ny_heap.proofs.RestLemmas.{same_mark}
 
 -- ---- inputs
@@ -228,6 +229,7 @@ module _ (x : UnitData) (i : ℕ) (s : Source) (count : length x.inputs.items �
         same_mark block len v j (timing_at x i) (cursor_at x.work i),
         ap f rewired_here,
         same_mark block len v j (timing_at x i) (reader_of s),
+        ap (λ ks. sum_by (stands_at block len v j) (cursors_of_sounds ks)) (kept_wired x.work i s),
       )
 
   -- so of all units

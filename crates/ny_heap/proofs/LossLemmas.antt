@@ -12,7 +12,8 @@ use Rattle.ny_heap.specs.View.{state_of, state_with, filled_in, IsHeap}
 use Rattle.ny_heap.specs.Making.{Grows}
 use Rattle.ny_heap.proofs.ViewLemmas.{unit_of_node, block_at-state}
 use Rattle.ny_heap.proofs.StepLemmas.{keeps_by, IsHeap-drops, IsTable-drops, released, drops_keep}
-use Rattle.ny_heap.proofs.GrowLemmas.{unit, list, filled, IsTable-grown, node_grown, trimmed_same}
+use Rattle.ny_heap.proofs.RoomLemmas.{unit, list, filled, IsTable-grown}
+use Rattle.ny_heap.proofs.GrowLemmas.{node_grown, trimmed_same}
 
 pub IsHeap-grown : (old mid : Table) → Grows old mid → IsHeap old → IsHeap mid
 IsHeap-grown old mid g heap = record {
@@ -25,6 +26,7 @@ IsHeap-grown old mid g heap = record {
   exhausted = λ v i x at inside reader none still.
       subst (λ n. (timing_at x i).len ≤ n) (taken v i x)
       (heap.exhausted v i x (sym (unit old mid g v) ∙ at) inside reader none (subst (λ b. filled_in old.store v < blocks_of b x.timing.len) g.block (subst (λ n. n < blocks_of mid.block x.timing.len) (filled old mid g v) still)));
+  waits = λ v x at full. heap.waits v x (sym (unit old mid g v) ∙ at) (subst (λ b. blocks_of b x.timing.len ≤ filled_in old.store v) g.block (subst (λ n. blocks_of mid.block x.timing.len ≤ n) (filled old mid g v) full));
 }
   where
     taken : (v i : ℕ) (x : UnitData) → taken_after old.block (kind_of x.work) x.timing (timing_at x i) (filled_in old.store v) ≡ taken_after mid.block (kind_of x.work) x.timing (timing_at x i) (filled_in mid.store v)
@@ -32,24 +34,24 @@ IsHeap-grown old mid g heap = record {
 
 pub IsHeap-lost : (old mid new : Table) (cs : List (Option CursorState)) → Grows old mid → Drops mid new cs [] → IsHeap old → IsTable old cs → IsHeap new
 IsHeap-lost old mid new cs g drops heap held =
-    IsHeap-drops mid new cs (IsHeap-grown old mid g heap) (IsTable-drops ℕ mid new cs 0 0 (IsTable-grown old mid g cs held) drops) drops
+    IsHeap-drops mid new cs (IsHeap-grown old mid g heap) (IsTable-drops ℕ (λ v. []) mid new cs 0 0 (IsTable-grown old mid g cs held) drops) drops
 
-module _ (B : Type 0) (old mid : Table) (fills peak : ℕ) (g : Grows old mid) where
-  pub grown_keep : IsTable old [] → KeepsMeaning {B = B} (state_of old fills peak) (state_of mid fills peak)
-  grown_keep table = keeps_by B (state_of old fills peak) (state_of mid fills peak) g.block (λ v y is.
-      let x = unit_of_node B mid fills peak v y is in
+module _ (B : Type 0) (bs : ℕ → List B) (old mid : Table) (fills peak : ℕ) (g : Grows old mid) where
+  pub grown_keep : IsTable old [] → KeepsMeaning {B = B} (state_of bs old fills peak) (state_of bs mid fills peak)
+  grown_keep table = keeps_by B (state_of bs old fills peak) (state_of bs mid fills peak) g.block (λ v y is.
+      let x = unit_of_node B bs mid fills peak v y is in
       let l = (IsTable-grown old mid g [] table).units v x.0 x.1 in (
         y,
-        sym (node_grown old mid g B [] fills peak v) ∙ is,
+        sym (node_grown old mid g B bs [] fills peak v) ∙ is,
         refl,
-        λ j b e. block_at-state B old fills peak v j l.0 (sym (list old mid g v) ∙ l.1) ∙ sym (block_at-state B mid fills peak v j l.0 l.1) ∙ e,
+        λ j b e. block_at-state B bs old fills peak v j l.0 (sym (list old mid g v) ∙ l.1) ∙ sym (block_at-state B bs mid fills peak v j l.0 l.1) ∙ e,
       ))
 
-module _ (B : Type 0) (old mid new : Table) (cs : List (Option CursorState)) (fills peak : ℕ) (g : Grows old mid) (drops : Drops mid new cs []) where
-  pub lost : IsTable old cs → IsTrimmed {B = B} (state_with old cs fills peak) (state_of new fills peak)
+module _ (B : Type 0) (bs : ℕ → List B) (old mid new : Table) (cs : List (Option CursorState)) (fills peak : ℕ) (g : Grows old mid) (drops : Drops mid new cs []) where
+  pub lost : IsTable old cs → IsTrimmed {B = B} (state_with bs old cs fills peak) (state_of bs new fills peak)
   lost held =
-      trimmed_same B (state_with old cs fills peak) (state_with mid cs fills peak) (node_grown old mid g B cs fills peak) (state_of new fills peak) (ap (λ s. length s.loose) g.store) g.block refl refl
-      (released B mid new cs fills peak (IsTable-grown old mid g cs held) drops)
+      trimmed_same B (state_with bs old cs fills peak) (state_with bs mid cs fills peak) (node_grown old mid g B bs cs fills peak) (state_of bs new fills peak) (ap (λ s. length s.loose) g.store) g.block refl refl
+      (released B bs mid new cs fills peak (IsTable-grown old mid g cs held) drops)
 
-  pub lost_keep : IsTable old [] → IsTable old cs → KeepsMeaning {B = B} (state_of old fills peak) (state_of new fills peak)
-  lost_keep table held = λ part w means. drops_keep B mid new cs fills peak (IsTable-grown old mid g cs held) drops part w (grown_keep B old mid fills peak g table part w means)
+  pub lost_keep : IsTable old [] → IsTable old cs → KeepsMeaning {B = B} (state_of bs old fills peak) (state_of bs new fills peak)
+  lost_keep table held = λ part w means. drops_keep B bs mid new cs fills peak (IsTable-grown old mid g cs held) drops part w (grown_keep B bs old mid fills peak g table part w means)

@@ -12,10 +12,10 @@ use Rattle.ny_heap.specs.Table.{unit_at, timing_at, input_of, IsThere, IsUnit, c
 use Rattle.ny_heap.specs.View.{filled_in}
 use Rattle.ny_heap.specs.Filling.{HasInput, moved_in, Settling}
 use Rattle.ny_heap.proofs.NeedLemmas.{taken_at, taken_rises}
-use Rattle.ny_heap.proofs.FirstLemmas.{need_taken}
+use Rattle.ny_heap.proofs.TakenLemmas.{need_taken}
 use Rattle.ny_heap.proofs.DropLemmas.{there_of}
 use Rattle.ny_heap.proofs.CountLemmas.{is_some_of}
-use Rattle.ny_heap.proofs.ViewLemmas.{filled_is}
+use Rattle.ny_heap.proofs.KeepLemmas.{filled_is}
 use Rattle.ny_list.proofs.IndexLemmas.{same_some}
 
 pub settling_there : (t : Table) (u i : ℕ) → Settling t u i → IsThere t u

@@ -1,9 +1,9 @@
 -- A unit whose input has another cursor.
-use Rattle.std.proofs.Common.{◌≡◌, ◌≢◌, inl, inr, ℕ, zero, suc, ◌+◌, ◌*◌, ◌<◌, ◌≤◌, min, List, [], ◌∷◌, length, get_or, set, Option, None, Some, IsSome, is_some, count_by, refl, sym, ap, subst, ◌∙◌, arith}
+use Rattle.std.proofs.Common.{◌≡◌, ◌≢◌, inl, inr, ℕ, zero, suc, ◌+◌, ◌*◌, ◌<◌, ◌≤◌, min, List, [], ◌∷◌, ◌++◌, length, get_or, slice_get, set, Option, None, Some, IsSome, is_some, count_by, refl, sym, ap, subst, ◌∙◌, arith, append-nil}
 use Rattle.std.specs.List.{sum_by}
 use Rattle.std.specs.Option.{option_map_or}
 use Rattle.std.proofs.lemmas.List.{get_or-set_same, get_or-set_other}
-use Rattle.std.proofs.lemmas.Bool.{cases_eq}
+use Rattle.std.proofs.lemmas.Bool.{cases_eq, cases_lt}
 use Rattle.ny_list.specs.Store.{ListState, StoreState, CursorState, list_at}
 use Rattle.ny_list.specs.Laws.{StoreLaws}
 use Rattle.ny_list.proofs.IndexLemmas.{same_some, none_some}
@@ -11,14 +11,14 @@ use Rattle.ny_units.specs.Inputs.{reader_of, taken_of}
 use Rattle.ny_units.specs.declared.input.Source.{Source}
 use Rattle.ny_heap.specs.declared.table.Unit.{Unit as UnitData}
 use Rattle.ny_heap.specs.declared.table.Table.{Table}
-use Rattle.ny_heap.specs.Work.{inputs_in, source_at, with_source, cursor_at, without_cursor_at, HasGiven}
-use Rattle.ny_heap.specs.Table.{unit_at, own_in, own_of, held_in, mark_in, len_of, stands_at, IsTable, IsUnit, IsInput, IsRead, KeepsList, Drops}
+use Rattle.ny_heap.specs.declared.sound.Sound.{Sound}
+use Rattle.ny_heap.specs.Work.{inputs_in, source_at, with_source, cursor_at, without_cursor_at, kept_in, HasGiven}
+use Rattle.ny_heap.specs.Table.{unit_at, own_in, own_of, held_in, mark_in, len_of, stands_at, IsTable, IsUnit, IsInput, IsKept, IsRead, KeepsList, Drops}
 use Rattle.ny_heap.specs.Filling.{Reworks}
 use Rattle.ny_heap.proofs.TableLemmas.{place_within}
 use Rattle.ny_heap.proofs.ListLemmas.{Relists, KeepsList-same, len_kept, mark_is}
-use Rattle.ny_heap.proofs.CountLemmas.{some_is, is_some_of, held_cons}
-use Rattle.ny_heap.proofs.LawLemmas.{some_term, unit_reads}
-use Rattle.ny_heap.proofs.ReadLemmas.{stands_apart}
+use Rattle.ny_heap.proofs.KeepLemmas.{some_term, unit_uses, HoldsCursor, stands_there, waits_wired, kept_wired, places_wired, IsKept-to}
+use Rattle.ny_heap.proofs.CountLemmas.{some_is, is_some_of, held_cons, holds_list}
 use Rattle.ny_heap.proofs.InputLemmas.{Like, like_taken, reader_taken, SameWork, same_work, cursor_here, cursor_other, start_same, owns_rewired}
 
 pub Relists-same : (s t : StoreState) → t ≡ s → Relists s t
@@ -59,6 +59,8 @@ module _ (t new : Table) (u i : ℕ) (x : UnitData) (s : Source) (at : unit_at t
       brings = is.brings;
       hears = is.hears;
       given = subst (λ n. HasGiven y.work y.timing.len (min n y.timing.len)) (λ j. sym keeps.filled j * sym block j) is.given;
+      places = is.places;
+      timings = is.timings;
     }
 
     unit_then : (k l : ListState) → KeepsList k l → IsUnit t u x k → IsUnit new u unit_now l
@@ -73,6 +75,8 @@ module _ (t new : Table) (u i : ℕ) (x : UnitData) (s : Source) (at : unit_at t
       brings = same.brings is.brings;
       hears = same.hears is.hears;
       given = same.given x.timing.len (min (length l.values * new.block) x.timing.len) (subst (λ n. HasGiven x.work x.timing.len (min n x.timing.len)) (λ j. sym keeps.filled j * sym block j) is.given);
+      places = places_wired x.work i s x.pending is.places;
+      timings = omega (arith, is.timings, ap length (waits_wired x.work i s));
     }
 
     unit_new : (y : UnitData) → unit_at new u ≡ Some y → (l : ListState) × (list_at new.store u ≡ Some l) × IsUnit new u y l
@@ -87,6 +91,22 @@ module _ (t new : Table) (u i : ℕ) (x : UnitData) (s : Source) (at : unit_at t
       visible = subst (λ n. c.visible ≤ n) (sym keeps.len) is.visible;
       computed = subst (λ n. c.place ≤ n) (λ j. min (sym keeps.filled j * sym block j) (sym keeps.len j)) is.computed;
     }
+
+    -- what a part keeps is what it kept
+    rewired_kept : (v k : ℕ) (y : UnitData) (q : Sound) → unit_at new v ≡ Some y → slice_get (kept_in y.work) k ≡ Some q → (z : UnitData) × (unit_at t v ≡ Some z) × (slice_get (kept_in z.work) k ≡ Some q)
+    rewired_kept v k y q is keeps = elim (cases_eq v u) [
+      | inl e ↦
+          let now : unit_now ≡ y = is_now y (sym (ap (unit_at new) e) ∙ is) in
+          (x, ap (unit_at t) e ∙ at, ap (λ ks. slice_get ks k) (sym (kept_wired x.work i s)) ∙ ap (λ (z : UnitData). slice_get (kept_in z.work) k) now ∙ keeps)
+      | inr ne ↦ (y, sym (unit_else v ne) ∙ is, keeps)
+    ]
+
+    kept_still : (q : Sound) → IsKept t q → IsKept new q
+    kept_still q k =
+        IsKept-to t new q (λ c reads there. let l = some_is (list_at t.store c.list) there in let n = lists.to c.list l.0 l.1 in (is_some_of _ n.0 n.1, len_kept t.store new.store c.list n.0 lists n.1)) k
+
+    pub rewired_keeps : (v k : ℕ) (y : UnitData) (q : Sound) (c : CursorState) → unit_at new v ≡ Some y → slice_get (kept_in y.work) k ≡ Some q → q.reader ≡ Some c → table.rank c.list < table.rank v
+    rewired_keeps v k y q c is keeps reads = let z = rewired_kept v k y q is keeps in table.keeps_lower v k z.0 q c z.1 z.2 reads
 
     -- what is put there can be read, and stands lower than the unit
     module _ (input : (c : CursorState) → reader_of s ≡ Some c → (l : ListState) × (list_at t.store c.list ≡ Some l) × IsInput t x i c l × (table.rank c.list < table.rank u)) where
@@ -151,6 +171,7 @@ module _ (t new : Table) (u i : ℕ) (x : UnitData) (s : Source) (at : unit_at t
               let n = lists.to c.list a.0 a.1 in
               (n.0, n.1, input_kept y k c a.0 n.0 n.2 a.2)
         ];
+        kept = λ v k y q is keeps. let z = rewired_kept v k y q is keeps in kept_still q (table.kept v k z.0 q z.1 z.2);
         held = λ k c is. let l = some_is (list_at t.store c.list) (there k c is) in let n = lists.to c.list l.0 l.1 in is_some_of _ n.0 n.1;
         counted = λ v j l is.
             let b = lists.back v l is in
@@ -160,6 +181,7 @@ module _ (t new : Table) (u i : ℕ) (x : UnitData) (s : Source) (at : unit_at t
         bound = table.bound;
         below = rewired_below;
         falls = rewired_falls;
+        keeps_lower = rewired_keeps;
       }
         where
           input_at_u : (k : ℕ) (y : UnitData) (c : CursorState) → unit_at new u ≡ Some y → k < length y.inputs.items → cursor_at y.work k ≡ Some c → (m : ListState) × (list_at new.store c.list ≡ Some m) × IsInput new y k c m
@@ -229,6 +251,9 @@ module _ (t mid : Table) (u i : ℕ) (x : UnitData) (c : CursorState) (table : I
   taken_falls =
       rewired_falls t mid u i x empty at inside (like_taken (source_at x.work i)) took.units took.block [] (Some c ∷ []) table (Relists-same t.store mid.store took.store) (λ d is. absurd (none_put d is))
 
+  pub taken_keeps : (v k : ℕ) (y : UnitData) (s : Sound) (d : CursorState) → unit_at mid v ≡ Some y → slice_get (kept_in y.work) k ≡ Some s → s.reader ≡ Some d → table.rank d.list < table.rank v
+  taken_keeps = rewired_keeps t mid u i x empty at inside (like_taken (source_at x.work i)) took.units took.block [] (Some c ∷ []) table (Relists-same t.store mid.store took.store)
+
   pub taken_unit : unit_at mid u ≡ Some (record x { work = without_cursor_at x.work i })
   taken_unit = unit_here t mid u i x empty at inside (like_taken (source_at x.work i)) took.units took.block
 
@@ -238,15 +263,31 @@ module _ (t mid : Table) (u i : ℕ) (x : UnitData) (c : CursorState) (table : I
   pub IsRead-taken : IsRead t → IsRead mid
   IsRead-taken read v l is = read v l (ap (λ s. list_at s v) (sym took.store) ∙ is)
 
--- ---- what stands higher than a cursor that is dropped stays
+-- ---- what stands higher than cursors that are dropped stays
 
-module _ (mid new : Table) (c : CursorState) (table : IsTable mid (Some c ∷ [])) (read : IsRead mid) (drops : Drops mid new (Some c ∷ []) []) (rank : ℕ → ℕ) (bound : ℕ)
+-- cursors in hand that read other lists count nothing in one
+none_stands : (block len v j : ℕ) (cs : List (Option CursorState)) → ((i : ℕ) (c : CursorState) → get_or cs i None ≡ Some c → c.list ≢ v) → sum_by (stands_at block len v j) cs ≡ 0
+none_stands block len v j cs apart = elim (cases_lt 0 (sum_by (stands_at block len v j) cs)) [
+  | inl some ↦
+      let k = some_term (stands_at block len v j) None cs some in
+      let c = stands_there block len v j (get_or cs k.0 None) k.2 in
+      absurd (apart k.0 c.0 c.1 c.2)
+  | inr none ↦ omega (arith, none)
+]
+
+module _ (mid new : Table) (cs : List (Option CursorState)) (table : IsTable mid cs) (read : IsRead mid) (drops : Drops mid new cs []) (rank : ℕ → ℕ) (bound low : ℕ)
+    (dropped : (i : ℕ) (c : CursorState) → get_or cs i None ≡ Some c → rank c.list < low)
     (below : (v : ℕ) (x : UnitData) → unit_at mid v ≡ Some x → rank v < bound)
-    (falls : (v i : ℕ) (x : UnitData) (d : CursorState) → unit_at mid v ≡ Some x → i < length x.inputs.items → cursor_at x.work i ≡ Some d → rank d.list < rank v) where
+    (falls : (v i : ℕ) (x : UnitData) (d : CursorState) → unit_at mid v ≡ Some x → i < length x.inputs.items → cursor_at x.work i ≡ Some d → rank d.list < rank v)
+    (keeps : (v i : ℕ) (x : UnitData) (s : Sound) (d : CursorState) → unit_at mid v ≡ Some x → slice_get (kept_in x.work) i ≡ Some s → s.reader ≡ Some d → rank d.list < rank v) where
   table_left : IsTable new []
-  table_left = drops.table [] table
+  table_left = drops.table [] (subst (IsTable mid) (sym (append-nil cs)) table)
 
-  pub stays : (fuel v : ℕ) (x : UnitData) → unit_at mid v ≡ Some x → rank c.list < rank v → bound ≤ rank v + fuel → IsSome (unit_at new v)
+  lower : (v : ℕ) (x : UnitData) (d : CursorState) → unit_at mid v ≡ Some x → HoldsCursor x d → rank d.list < rank v
+  lower v x d at (inl r) = falls v r.0 x d at r.1 r.2
+  lower v x d at (inr k) = keeps v k.0 x k.1 d at k.2 k.3
+
+  pub stays : (fuel v : ℕ) (x : UnitData) → unit_at mid v ≡ Some x → low ≤ rank v → bound ≤ rank v + fuel → IsSome (unit_at new v)
   stays zero v x at above near = absurd (omega (arith, below v x at, near))
   stays (suc fuel) v x at above near = by (λ w y is higher close. stays fuel w y is higher close) (list_at new.store v) refl
     where
@@ -263,19 +304,17 @@ module _ (mid new : Table) (c : CursorState) (table : IsTable mid (Some c ∷ []
             block_v.2,
             mark_is mid.store v block_v.0 list_v.0 list_v.1,
             drops.gone v block_v.0 list_v.0 list_v.1 gone,
-            held_cons mid (Some c) [] v block_v.0,
-            stands_apart mid.block (len_of mid.store v) v block_v.0 c (λ e. omega (arith, above, ap rank e)),
+            none_stands mid.block (len_of mid.store v) v block_v.0 cs (λ i c is e. omega (arith, above, dropped i c is, ap rank e)),
           )
 
-      by : ((w : ℕ) (y : UnitData) → unit_at mid w ≡ Some y → rank c.list < rank w → bound ≤ rank w + fuel → IsSome (unit_at new w)) → (o : Option ListState) → list_at new.store v ≡ o → IsSome (unit_at new v)
+      by : ((w : ℕ) (y : UnitData) → unit_at mid w ≡ Some y → low ≤ rank w → bound ≤ rank w + fuel → IsSome (unit_at new w)) → (o : Option ListState) → list_at new.store v ≡ o → IsSome (unit_at new v)
       by up (Some l) e = table_left.lists v (is_some_of _ l e)
       by up None e =
           let w = some_term (λ (o : Option UnitData). option_map_or {U = ℕ} (own_of mid.block (len_of mid.store v) v block_v.0) o 0) None mid.units.items (read_by e) in
-          let r = unit_reads mid.block (len_of mid.store v) v block_v.0 (unit_at mid w.0) w.2 in
-          let higher = falls w.0 r.1 r.0 r.2 r.3 r.4 r.5 in
-          let y = some_is (unit_at new w.0) (up w.0 r.0 r.3 (omega (arith, higher, above, ap rank r.6)) (omega (arith, higher, near, ap rank r.6))) in
-          let same : r.0 ≡ y.0 = same_some (sym r.3 ∙ drops.kept w.0 y.0 y.1) in
+          let r = unit_uses mid.block (len_of mid.store v) v block_v.0 (unit_at mid w.0) w.2 in
+          let higher = lower w.0 r.0 r.1 r.2 r.4 in
+          let y = some_is (unit_at new w.0) (up w.0 r.0 r.2 (omega (arith, higher, above, ap rank r.3)) (omega (arith, higher, near, ap rank r.3))) in
+          let same : r.0 ≡ y.0 = same_some (sym r.2 ∙ drops.kept w.0 y.0 y.1) in
           let is : unit_at new w.0 ≡ Some r.0 = y.1 ∙ ap Some (sym same) in
-          let l = table_left.units w.0 r.0 is in
-          let a = table_left.inputs w.0 r.1 r.0 l.0 r.2 is l.1 r.4 r.5 in
-          absurd (none_some (sym e ∙ ap (list_at new.store) (sym r.6) ∙ a.1))
+          let a = some_is (list_at new.store r.1.list) (holds_list new [] w.0 r.0 r.1 table_left is r.4) in
+          absurd (none_some (sym e ∙ ap (list_at new.store) (sym r.3) ∙ a.1))

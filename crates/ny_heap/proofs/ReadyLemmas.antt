@@ -1,33 +1,40 @@
 -- A unit that a contract calls ready can fill a block.
-use Rattle.std.proofs.Common.{◌≡◌, ℕ, nat_lt, false, [], length, Option, None, IsSomeAnd, IsTrue, sym, ap, ◌∙◌}
+use Rattle.std.proofs.Common.{◌≡◌, ℕ, nat_lt, false, List, [], length, Option, None, Some, IsSomeAnd, IsTrue, sym, ap, subst, ◌∙◌}
 use Rattle.std.specs.Option.{option_map_or}
 use Rattle.ny_list.specs.Store.{ListState}
 use Rattle.ny_list.proofs.IndexLemmas.{same_some}
 use Rattle.ny_heap.specs.declared.table.Table.{Table}
 use Rattle.ny_heap.specs.Heap.{Node, node_at, is_open, blocks_of}
-use Rattle.ny_heap.specs.Steps.{want_of}
-use Rattle.ny_heap.specs.Table.{IsThere, is_open_in}
+use Rattle.ny_heap.specs.declared.table.Unit.{Unit as UnitData}
+use Rattle.ny_heap.specs.Steps.{want_of, IsSettledUnit}
+use Rattle.ny_heap.specs.Table.{unit_at, IsThere, is_open_in}
 use Rattle.ny_heap.specs.View.{node_of, state_of, filled_in, IsHeap}
 use Rattle.ny_heap.specs.Filling.{CanFill}
 use Rattle.ny_heap.proofs.ViewLemmas.{node_of_unit, filled_is}
 use Rattle.ny_heap.proofs.FirstLemmas.{some_and, open_is, want_is}
 
 -- an open unit has a block left to fill
-opened_in : (B : Type 0) (t : Table) (fills peak u : ℕ) → (there : IsThere t u) → IsSomeAnd (node_at {B = B} (state_of t fills peak) u) (λ x. IsTrue (is_open t.block x)) → IsTrue (is_open_in t u)
-opened_in B t fills peak u there opened =
+opened_in : (B : Type 0) (bs : ℕ → List B) (t : Table) (fills peak u : ℕ) → (there : IsThere t u) → IsSomeAnd (node_at {B = B} (state_of bs t fills peak) u) (λ x. IsTrue (is_open t.block x)) → IsTrue (is_open_in t u)
+opened_in B bs t fills peak u there opened =
     let y = some_and _ _ opened in
-    let same : y.0 ≡ node_of t [] u there.unit = same_some (sym y.1 ∙ node_of_unit B t fills peak u there.unit there.there) in
+    let same : y.0 ≡ node_of bs t [] u there.unit = same_some (sym y.1 ∙ node_of_unit B bs t fills peak u there.unit there.there) in
     let is : is_open_in t u ≡ nat_lt (filled_in t.store u) (blocks_of t.block there.unit.timing.len) =
     ap (λ (o : Option ListState). option_map_or (λ l. nat_lt (length l.values) (blocks_of t.block l.len)) o false) there.listed
     ∙ (λ i. nat_lt (sym (filled_is t.store u there.list there.listed) i) (blocks_of t.block (there.len i))) in
     is ∙ ap (λ (k : Node B). is_open t.block k) (sym same) ∙ y.2
 
-pub can_fill : (B : Type 0) (t : Table) (fills peak u : ℕ) → IsHeap t → IsSomeAnd (node_at {B = B} (state_of t fills peak) u) (λ x. IsTrue (is_open t.block x)) → want_of {B = B} (state_of t fills peak) u ≡ None → CanFill t u
-can_fill B t fills peak u heap opened ready =
-    let there = (open_is B t fills peak u heap.table opened).2 in
+pub can_fill : (B : Type 0) (bs : ℕ → List B) (t : Table) (fills peak u : ℕ) → IsHeap t → IsSomeAnd (node_at {B = B} (state_of bs t fills peak) u) (λ x. IsTrue (is_open t.block x)) → want_of {B = B} (state_of bs t fills peak) u ≡ None → CanFill t u
+can_fill B bs t fills peak u heap opened ready =
+    let there = (open_is B bs t fills peak u heap.table opened).2 in
     record {
       heap = heap;
       there = there;
-      opened = opened_in B t fills peak u there opened;
-      computed = sym (want_is B t heap.table fills peak u there.unit there.there) ∙ ready;
+      opened = opened_in B bs t fills peak u there opened;
+      computed = sym (want_is B bs t heap.table fills peak u there.unit there.there) ∙ ready;
     }
+
+-- the unit that is filled is settled
+pub still_settled : (B : Type 0) (bs : ℕ → List B) (t : Table) (fills peak u : ℕ) → CanFill t u → (x : UnitData) → unit_at t u ≡ Some x → IsSomeAnd (node_at {B = B} (state_of bs t fills peak) u) (λ y. IsSettledUnit t.block y) → IsSettledUnit {B = B} t.block (node_of bs t [] u x)
+still_settled B bs t fills peak u ready x at settled =
+    let y = some_and _ _ settled in
+    subst (λ (z : Node B). IsSettledUnit t.block z) (same_some (sym y.1 ∙ node_of_unit B bs t fills peak u x at)) y.2

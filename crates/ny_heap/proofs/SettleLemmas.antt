@@ -1,5 +1,5 @@
 -- The inputs of a unit that has one block more move on, one after another.
-use Rattle.std.proofs.Common.{◌≡◌, ◌≢◌, ◌⊎◌, inl, inr, ℕ, ◌+◌, ◌*◌, ◌<◌, ◌≤◌, min, Bool, true, false, cond, [], ◌∷◌, length, set, Option, None, Some, refl, sym, ap, subst, ◌∙◌, arith, length-set}
+use Rattle.std.proofs.Common.{◌≡◌, ◌≢◌, ◌⊎◌, inl, inr, ℕ, zero, suc, ◌+◌, ◌*◌, ◌<◌, ◌≤◌, min, Bool, true, false, cond, [], ◌∷◌, length, get_or, set, Option, None, Some, refl, sym, ap, subst, ◌∙◌, arith, length-set}
 use Rattle.std.specs.Option.{option_map, option_map_or}
 use Rattle.std.proofs.lemmas.List.{set-set}
 use Rattle.ny_list.specs.Store.{ListState, StoreState, CursorState, list_at, mark_at}
@@ -18,11 +18,11 @@ use Rattle.ny_heap.specs.Filling.{Reworks, HasInput, moved_in, Settling, Settles
 use Rattle.ny_heap.proofs.RestLemmas.{same_count}
 use Rattle.ny_heap.proofs.ListLemmas.{Relists, len_kept}
 use Rattle.ny_heap.proofs.CountLemmas.{some_is, cursor_counted}
-use Rattle.ny_heap.proofs.ViewLemmas.{filled_is}
-use Rattle.ny_heap.proofs.ReadLemmas.{lists_now, marks_now, IsRead-moved}
+use Rattle.ny_heap.proofs.KeepLemmas.{filled_is, waits_wired}
+use Rattle.ny_heap.proofs.HeardLemmas.{lists_now, marks_now, IsRead-moved}
 use Rattle.ny_heap.proofs.InputLemmas.{Like, like_taken, like_put, reader_put, reader_taken, reads_taken, source_here, reads_source, SameWork, same_work, cursor_here, cursor_other, reads_same, owns_rewired, put_back}
 use Rattle.ny_heap.proofs.NextLemmas.{now_computed}
-use Rattle.ny_heap.proofs.PassLemmas.{unit_here, unit_else, IsTable-rewired, empty, IsTable-taken, IsRead-taken, own_taken, taken_below, taken_falls, taken_unit, taken_else, its_input, its_rank, stays}
+use Rattle.ny_heap.proofs.PassLemmas.{unit_here, unit_else, IsTable-rewired, empty, IsTable-taken, IsRead-taken, own_taken, taken_below, taken_falls, taken_keeps, taken_unit, taken_else, its_input, its_rank, stays}
 
 -- ---- one input has moved on
 
@@ -103,6 +103,7 @@ module _ (t new : Table) (u i : ℕ) (x : UnitData) (src : Source) (s : Settling
       inside = inside_next;
       outside = outside_next;
       sources = λ k within is. reads_same x.work i src inside like k (omega (arith, within, count)) is;
+      waits = inl (waits_wired x.work i src);
       block = block;
       pool = pool;
       slots = slots;
@@ -139,11 +140,16 @@ module _ (t mid : Table) (u i : ℕ) (x : UnitData) (c : CursorState) (s : Settl
     dropped_table : IsTable new []
     dropped_table = drops.table [] taken
 
+    dropped_lower : (k : ℕ) (d : CursorState) → get_or (Some c ∷ []) k None ≡ Some d → s.table.rank d.list < s.table.rank u
+    dropped_lower zero d is = subst (λ (q : CursorState). s.table.rank q.list < s.table.rank u) (same_some is) (its_rank t mid u i x c s.table at inside reads took)
+    dropped_lower (suc zero) d is = absurd (none_some is)
+    dropped_lower (suc (suc k)) d is = absurd (none_some is)
+
     still_there : unit_at new u ≡ Some (record x { work = without_cursor_at x.work i })
     still_there =
-        let y = some_is (unit_at new u) (stays mid new c taken (IsRead-taken t mid u i x c s.table at inside reads took s.read) drops s.table.rank s.table.bound
-        (taken_below t mid u i x c s.table at inside reads took) (taken_falls t mid u i x c s.table at inside reads took)
-        s.table.bound u (record x { work = without_cursor_at x.work i }) (taken_unit t mid u i x c s.table at inside reads took) (its_rank t mid u i x c s.table at inside reads took) (omega arith)) in
+        let y = some_is (unit_at new u) (stays mid new (Some c ∷ []) taken (IsRead-taken t mid u i x c s.table at inside reads took s.read) drops s.table.rank s.table.bound (s.table.rank u) dropped_lower
+        (taken_below t mid u i x c s.table at inside reads took) (taken_falls t mid u i x c s.table at inside reads took) (taken_keeps t mid u i x c s.table at inside reads took)
+        s.table.bound u (record x { work = without_cursor_at x.work i }) (taken_unit t mid u i x c s.table at inside reads took) (omega arith) (omega arith)) in
         y.1 ∙ ap Some (same_some (sym (drops.kept u y.0 y.1) ∙ taken_unit t mid u i x c s.table at inside reads took))
 
     dropped_lists : (w : ℕ) (l : ListState) → list_at new.store w ≡ Some l → (k : ListState) × (list_at t.store w ≡ Some k) × KeepsList k l

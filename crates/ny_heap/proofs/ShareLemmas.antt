@@ -18,13 +18,13 @@ use Rattle.ny_heap.specs.Steps.{IsCounted, changed, with_mark, with_sound}
 use Rattle.ny_heap.specs.Sharing.{readers_of, CanShare}
 use Rattle.ny_heap.specs.Work.{kind_of}
 use Rattle.ny_heap.specs.Table.{unit_at, timing_at, mark_in, len_of, stands_at, IsTable, IsRead, IsThere}
-use Rattle.ny_heap.specs.View.{node_of, state_of, outside_in, filled_in, IsHeap}
+use Rattle.ny_heap.specs.View.{node_of, state_of, outside_in, filled_in, HaveBranches, IsHeap}
 use Rattle.ny_heap.proofs.TableLemmas.{place_within}
 use Rattle.ny_heap.proofs.ListLemmas.{list_within, list_here, list_other, Relists, Relists-one, mark_is, len_is, len_kept}
 use Rattle.ny_heap.proofs.CountLemmas.{some_is, is_some_of, cursor_counted, held_cons, own_kept, IsTable-relisted}
 use Rattle.ny_heap.proofs.ViewLemmas.{node_of_unit, unit_of_node, block_at-state, filled_is, readers_is}
 use Rattle.ny_heap.proofs.StepLemmas.{keeps_by, IsTable-held, stand_within}
-use Rattle.ny_heap.proofs.ReadLemmas.{marks_entered, stands_of, stands_apart}
+use Rattle.ny_heap.proofs.HeardLemmas.{marks_entered, stands_of, stands_apart}
 
 -- ---- the table
 
@@ -119,6 +119,7 @@ module _ (t : Table) (c : CursorState) (table : IsTable t (Some c ∷ [])) where
     exhausted = λ v i x at inside reader none more.
         subst (λ n. (timing_at x i).len ≤ taken_after t.block (kind_of x.work) x.timing (timing_at x i) n) (sym (filled_shared v x at))
         (heap.exhausted v i x at inside reader none (subst (λ n. n < blocks_of t.block x.timing.len) (filled_shared v x at) more));
+    waits = λ v x at full. heap.waits v x at (subst (λ n. blocks_of t.block x.timing.len ≤ n) (filled_shared v x at) full);
   }
 
 -- ---- what a contract sees
@@ -129,7 +130,7 @@ same_blocks [] v x y is same = refl
 same_blocks (l ∷ ls) zero x y is same = ap (λ vs. vs ∷ map (λ (o : Option ListState). option_map_or (λ k. k.values) o []) ls) (same ∙ sym (ap (λ (o : Option ListState). option_map_or (λ k. k.values) o []) is))
 same_blocks (l ∷ ls) (suc v) x y is same = ap (λ rest. option_map_or (λ (k : ListState). k.values) l [] ∷ rest) (same_blocks ls v x y is same)
 
-module _ (B : Type 0) (t : Table) (c : CursorState) (table : IsTable t []) (held : IsTable t (Some c ∷ [])) (fills peak : ℕ) where
+module _ (B : Type 0) (bs : ℕ → List B) (t : Table) (c : CursorState) (table : IsTable t []) (held : IsTable t (Some c ∷ [])) (fills peak : ℕ) where
   abbrev new : Table
   new = table_now t c held
 
@@ -144,10 +145,10 @@ module _ (B : Type 0) (t : Table) (c : CursorState) (table : IsTable t []) (held
   abbrev marks_with : (v : ℕ) → List ℕ
   marks_with v = map (λ j. outside_in t [] v j + stands_at t.block (len_of t.store v) v j (Some c)) (range_with_len 0 (filled_in t.store v + 1))
 
-  node_now : (v : ℕ) (x : UnitData) → unit_at t v ≡ Some x → node_of {B = B} new [] v x ≡ record (node_of t [] v x) { outside = marks_with v }
+  node_now : (v : ℕ) (x : UnitData) → unit_at t v ≡ Some x → node_of {B = B} bs new [] v x ≡ record (node_of bs t [] v x) { outside = marks_with v }
   node_now v x at =
-      (λ i. record (node_of {B = B} t [] v x) { filled = filled_shared t c held v x at i; outside = map (outside_in new [] v) (range_with_len 0 (filled_shared t c held v x at i + 1)) })
-      ∙ ap (λ ms. record (node_of {B = B} t [] v x) { outside = ms })
+      (λ i. record (node_of {B = B} bs t [] v x) { filled = filled_shared t c held v x at i; outside = map (outside_in new [] v) (range_with_len 0 (filled_shared t c held v x at i + 1)) })
+      ∙ ap (λ ms. record (node_of {B = B} bs t [] v x) { outside = ms })
       (tab_same (outside_in new [] v) (λ j. outside_in t [] v j + stands_at t.block (len_of t.store v) v j (Some c)) (filled_in t.store v + 1) 0 (λ j h. outside_now v j x at))
 
   its_unit : (x : UnitData) × (unit_at t c.list ≡ Some x)
@@ -158,10 +159,10 @@ module _ (B : Type 0) (t : Table) (c : CursorState) (table : IsTable t []) (held
     heard x = with_mark (stands_in t.block x.timing.len (place_of s)) x
 
     abbrev before : ℕ → Option (Node B)
-    before w = option_map (node_of {B = B} t [] w) (unit_at t w)
+    before w = option_map (node_of {B = B} bs t [] w) (unit_at t w)
 
     abbrev after : ℕ → Option (Node B)
-    after w = option_map (node_of {B = B} new [] w) (unit_at t w)
+    after w = option_map (node_of {B = B} bs new [] w) (unit_at t w)
 
     abbrev stand : ℕ
     stand = stands_in t.block (len_of t.store c.list) c.place
@@ -186,86 +187,86 @@ module _ (B : Type 0) (t : Table) (c : CursorState) (table : IsTable t []) (held
         ))
         (λ j h ne. omega (arith, stands_of t.block (len_of t.store c.list) (len_of t.store c.list) c.list j c refl refl, ap (λ b. cond {A = ℕ} b 1 0) (ne_eqb stand j (λ e. ne (sym e)))))
 
-    here : after c.list ≡ option_map heard (node_at (state_of {B = B} t fills peak) c.list)
+    here : after c.list ≡ option_map heard (node_at (state_of {B = B} bs t fills peak) c.list)
     here =
-        ap (option_map (node_of {B = B} new [] c.list)) its_unit.1
+        ap (option_map (node_of {B = B} bs new [] c.list)) its_unit.1
         ∙ ap Some (node_now c.list its_unit.0 its_unit.1)
-        ∙ ap (λ ms. Some (record (node_of {B = B} t [] c.list its_unit.0) { outside = ms })) (sym (ap (λ m. set old_marks m (get_or old_marks m 0 + 1)) stand_is ∙ more))
-        ∙ sym (ap (option_map heard) (node_of_unit B t fills peak c.list its_unit.0 its_unit.1))
+        ∙ ap (λ ms. Some (record (node_of {B = B} bs t [] c.list its_unit.0) { outside = ms })) (sym (ap (λ m. set old_marks m (get_or old_marks m 0 + 1)) stand_is ∙ more))
+        ∙ sym (ap (option_map heard) (node_of_unit B bs t fills peak c.list its_unit.0 its_unit.1))
 
-    beside : (w : ℕ) → w ≢ c.list → (o : Option UnitData) → unit_at t w ≡ o → option_map (node_of {B = B} new [] w) o ≡ option_map (node_of {B = B} t [] w) o
+    beside : (w : ℕ) → w ≢ c.list → (o : Option UnitData) → unit_at t w ≡ o → option_map (node_of {B = B} bs new [] w) o ≡ option_map (node_of {B = B} bs t [] w) o
     beside w ne None at = refl
     beside w ne (Some x) at =
         ap Some (node_now w x at)
-        ∙ ap (λ ms. Some (record (node_of {B = B} t [] w x) { outside = ms }))
+        ∙ ap (λ ms. Some (record (node_of {B = B} bs t [] w x) { outside = ms }))
         (tab_same (λ j. outside_in t [] w j + stands_at t.block (len_of t.store w) w j (Some c)) (outside_in t [] w) (filled_in t.store w + 1) 0
         (λ j h. omega (arith, stands_apart t.block (len_of t.store w) w j c (λ e. ne (sym e)))))
 
-    blocks_same : (state_of {B = B} new fills peak).blocks ≡ (state_of {B = B} t fills peak).blocks
+    blocks_same : (state_of {B = B} bs new fills peak).blocks ≡ (state_of {B = B} bs t fills peak).blocks
     blocks_same =
         ap (λ (r : StoreState). map (λ (o : Option ListState). option_map_or (λ l. l.values) o []) r.lists) (shared_is t c held)
         ∙ same_blocks t.store.lists c.list (its_list t c held).0 (list_now t c held) (its_list t c held).1 refl
 
     -- the heap has one sound more
-    pub shared_heap : state_of {B = B} new fills peak ≡ with_sound (state_of {B = B} t fills peak) s
+    pub shared_heap : state_of {B = B} bs new fills peak ≡ with_sound (state_of {B = B} bs t fills peak) s
     shared_heap =
-        ap (λ bs. record (state_of {B = B} new fills peak) { blocks = bs }) blocks_same
-        ∙ sym (ap (λ (o : Option CursorState). changed {B = B} (state_of t fills peak) (list_of (record s { reader = o })) heard) reads
-        ∙ ap (λ ns. record (state_of {B = B} t fills peak) { nodes = ns })
-        (tab_set before after (length t.units.items) c.list (option_map heard (node_at (state_of t fills peak) c.list)) None (place_within t.units.items c.list its_unit.0 its_unit.1) here (λ w h ne. beside w ne (unit_at t w) refl)))
+        ap (λ bl. record (state_of {B = B} bs new fills peak) { blocks = bl }) blocks_same
+        ∙ sym (ap (λ (o : Option CursorState). changed {B = B} (state_of bs t fills peak) (list_of (record s { reader = o })) heard) reads
+        ∙ ap (λ ns. record (state_of {B = B} bs t fills peak) { nodes = ns })
+        (tab_set before after (length t.units.items) c.list (option_map heard (node_at (state_of bs t fills peak) c.list)) None (place_within t.units.items c.list its_unit.0 its_unit.1) here (λ w h ne. beside w ne (unit_at t w) refl)))
 
-  pub shared_keeps : KeepsMeaning {B = B} (state_of t fills peak) (state_of new fills peak)
-  shared_keeps = keeps_by B (state_of t fills peak) (state_of new fills peak) refl (λ v y is.
-      let x = unit_of_node B new fills peak v y is in
+  pub shared_keeps : KeepsMeaning {B = B} (state_of bs t fills peak) (state_of bs new fills peak)
+  shared_keeps = keeps_by B (state_of bs t fills peak) (state_of bs new fills peak) refl (λ v y is.
+      let x = unit_of_node B bs new fills peak v y is in
       let u = table.units v x.0 x.1 in
       let now = (lists_shared t c held).to v u.0 u.1 in (
-        node_of t [] v x.0,
-        node_of_unit B t fills peak v x.0 x.1,
-        x.2 ∙ (λ i. record (node_of {B = B} t [] v x.0) { filled = filled_shared t c held v x.0 x.1 i; outside = map (outside_in new [] v) (range_with_len 0 (filled_in new.store v + 1)) })
-            ∙ ap (λ ms. record (node_of {B = B} t [] v x.0) { outside = ms }) (sym (ap (λ (z : Node B). z.outside) x.2)),
-        λ j b e. block_at-state B t fills peak v j u.0 u.1 ∙ now.2.kept j b (sym (block_at-state B new fills peak v j now.0 now.1) ∙ e),
+        node_of bs t [] v x.0,
+        node_of_unit B bs t fills peak v x.0 x.1,
+        x.2 ∙ (λ i. record (node_of {B = B} bs t [] v x.0) { filled = filled_shared t c held v x.0 x.1 i; outside = map (outside_in new [] v) (range_with_len 0 (filled_in new.store v + 1)) })
+            ∙ ap (λ ms. record (node_of {B = B} bs t [] v x.0) { outside = ms }) (sym (ap (λ (z : Node B). z.outside) x.2)),
+        λ j b e. block_at-state B bs t fills peak v j u.0 u.1 ∙ now.2.kept j b (sym (block_at-state B bs new fills peak v j now.0 now.1) ∙ e),
       ))
 
 -- ---- how many read a list
 
-module _ (B : Type 0) (t : Table) (table : IsTable t []) (fills peak : ℕ) where
-  pub readers_are : (v : ℕ) (l : ListState) → list_at t.store v ≡ Some l → readers_of {B = B} (state_of t fills peak) v ≡ cursors_of l
+module _ (B : Type 0) (bs : ℕ → List B) (t : Table) (table : IsTable t []) (have : HaveBranches bs t) (fills peak : ℕ) where
+  pub readers_are : (v : ℕ) (l : ListState) → list_at t.store v ≡ Some l → readers_of {B = B} (state_of bs t fills peak) v ≡ cursors_of l
   readers_are v l listed =
       let x = some_is (unit_at t v) (table.lists v (is_some_of _ l listed)) in
-      let counts = readers_in {B = B} (state_of t fills peak) v (node_of t [] v x.0) in
-      ap (λ (o : Option (Node B)). option_map_or {U = ℕ} (λ y. sum (map (readers_in {B = B} (state_of t fills peak) v y) (range_with_len 0 (y.filled + 1)))) o 0) (node_of_unit B t fills peak v x.0 x.1)
+      let counts = readers_in {B = B} (state_of bs t fills peak) v (node_of bs t [] v x.0) in
+      ap (λ (o : Option (Node B)). option_map_or {U = ℕ} (λ y. sum (map (readers_in {B = B} (state_of bs t fills peak) v y) (range_with_len 0 (y.filled + 1)))) o 0) (node_of_unit B bs t fills peak v x.0 x.1)
       ∙ ap sum (ext_get_or 0 (map counts (range_with_len 0 (filled_in t.store v + 1))) l.marks
       (length-map-range_with_len counts 0 (filled_in t.store v + 1) ∙ ap (λ n. n + 1) (filled_is t.store v l listed) ∙ sym (table.store.lists v l listed).marks)
       (λ j inside.
       let below : j < filled_in t.store v + 1 = omega (arith, inside, length-map-range_with_len counts 0 (filled_in t.store v + 1)) in
       tab_get counts (filled_in t.store v + 1) j 0 below
-      ∙ readers_is B t fills peak v j x.0 l table x.1 listed (omega (arith, below, filled_is t.store v l listed))
+      ∙ readers_is B bs t fills peak have v j x.0 l table x.1 listed (omega (arith, below, filled_is t.store v l listed))
       ∙ mark_is t.store v j l listed))
 
   -- there is room for one more cursor where there is for one more reader
-  pub few_of : (s : Sound) (v : ℕ) → list_of s ≡ Some v → CanShare {B = B} (state_of t fills peak) s → (l : ListState) → list_at t.store v ≡ Some l → cursors_of l + 1 < 2 ^ 32
-  few_of s v is room l listed = omega (arith, room, ap (λ (o : Option ℕ). option_map_or {U = ℕ} (readers_of {B = B} (state_of t fills peak)) o 0) is, readers_are v l listed)
+  pub few_of : (s : Sound) (v : ℕ) → list_of s ≡ Some v → CanShare {B = B} (state_of bs t fills peak) s → (l : ListState) → list_at t.store v ≡ Some l → cursors_of l + 1 < 2 ^ 32
+  few_of s v is room l listed = omega (arith, room, ap (λ (o : Option ℕ). option_map_or {U = ℕ} (readers_of {B = B} (state_of bs t fills peak)) o 0) is, readers_are v l listed)
 
-  pub room_is : (s : Sound) (v n : ℕ) → list_of s ≡ Some v → IsThere t v → ((l : ListState) → list_at t.store v ≡ Some l → n ≡ cursors_of l) → IsTrue (nat_lt n (2 ^ 32 - 1)) ↔ CanShare {B = B} (state_of t fills peak) s
+  pub room_is : (s : Sound) (v n : ℕ) → list_of s ≡ Some v → IsThere t v → ((l : ListState) → list_at t.store v ≡ Some l → n ≡ cursors_of l) → IsTrue (nat_lt n (2 ^ 32 - 1)) ↔ CanShare {B = B} (state_of bs t fills peak) s
   room_is s v n is there counts =
-      let e : option_map_or {U = ℕ} (readers_of {B = B} (state_of t fills peak)) (list_of s) 0 ≡ n =
-      ap (λ (o : Option ℕ). option_map_or {U = ℕ} (readers_of {B = B} (state_of t fills peak)) o 0) is ∙ readers_are v there.list there.listed ∙ sym (counts there.list there.listed) in
+      let e : option_map_or {U = ℕ} (readers_of {B = B} (state_of bs t fills peak)) (list_of s) 0 ≡ n =
+      ap (λ (o : Option ℕ). option_map_or {U = ℕ} (readers_of {B = B} (state_of bs t fills peak)) o 0) is ∙ readers_are v there.list there.listed ∙ sym (counts there.list there.listed) in
       ((λ h. omega (arith, e, ltb-true n (2 ^ 32 - 1) h)), (λ h. lt-ltb n (2 ^ 32 - 1) (omega (arith, e, h))))
 
 -- ---- a sound that is shared: its cursor c has another beside it
 
-module _ (B : Type 0) (t new : Table) (fills peak : ℕ) (heap : IsHeap t) (s : Sound) (c : CursorState) (reads : s.reader ≡ Some c) (counted : IsCounted {B = B} (state_of t fills peak) s c.list)
+module _ (B : Type 0) (bs : ℕ → List B) (t new : Table) (fills peak : ℕ) (heap : IsHeap t) (s : Sound) (c : CursorState) (reads : s.reader ≡ Some c) (counted : IsCounted {B = B} (state_of bs t fills peak) s c.list)
     (shared : new ≡ record t { store = with_cursor t.store c }) (laws : StoreLaws new.store) where
   held : IsTable t (Some c ∷ [])
-  held = IsTable-held B t [] fills peak heap.table s c reads counted
+  held = IsTable-held B bs t [] fills peak heap.table s c reads counted
 
   pub share_heap : IsHeap new
   share_heap = subst IsHeap (sym shared) (IsHeap-shared t c held heap (IsTable-shared t c held (subst (λ (q : Table). StoreLaws q.store) shared laws)))
 
-  pub share_is : (to : Sound) → to.reader ≡ Some c → state_of {B = B} new fills peak ≡ with_sound (state_of t fills peak) to
+  pub share_is : (to : Sound) → to.reader ≡ Some c → state_of {B = B} bs new fills peak ≡ with_sound (state_of bs t fills peak) to
   share_is to again =
-      subst (λ (q : Table). state_of {B = B} q fills peak ≡ with_sound (state_of t fills peak) to) (sym shared)
-      (shared_heap B t c heap.table held fills peak to again (stand_within B t [] fills peak heap.table s c reads counted))
+      subst (λ (q : Table). state_of {B = B} bs q fills peak ≡ with_sound (state_of bs t fills peak) to) (sym shared)
+      (shared_heap B bs t c heap.table held fills peak to again (stand_within B bs t [] fills peak heap.table s c reads counted))
 
-  pub share_keeps : KeepsMeaning {B = B} (state_of t fills peak) (state_of new fills peak)
-  share_keeps = subst (λ (q : Table). KeepsMeaning {B = B} (state_of t fills peak) (state_of q fills peak)) (sym shared) (shared_keeps B t c heap.table held fills peak)
+  pub share_keeps : KeepsMeaning {B = B} (state_of bs t fills peak) (state_of bs new fills peak)
+  share_keeps = subst (λ (q : Table). KeepsMeaning {B = B} (state_of bs t fills peak) (state_of bs q fills peak)) (sym shared) (shared_keeps B bs t c heap.table held fills peak)

@@ -89,8 +89,8 @@ NoneLacks-done t x done count i past n =
 none_some_count : (n : ℕ) → count_by is_some (replicate {A = Option (List Rattle.std.proofs.Common.ℤ)} n None) ≡ 0
 none_some_count n = omega (arith, Rattle.std.proofs.lemmas.List.Folds.sum_by-replicate (λ (o : Option (List Rattle.std.proofs.Common.ℤ)). cond {A = ℕ} (is_some o) 1 0) n None)
 
-pub opened_inside : (t : Table) (pool block : ℕ) (out : List Rattle.std.proofs.Common.ℤ) → t.store ≡ record { block = block; lists = []; loose = replicate pool None } → t.units.items ≡ [] → t.block ≡ block → StoreLaws t.store → length out ≡ block → IsHeapInside t pool 0 0 out
-opened_inside t pool block out store units same laws size = record {
+pub opened_inside : (B : Type 0) (bs : ℕ → List B) (t : Table) (pool block : ℕ) (out : List Rattle.std.proofs.Common.ℤ) → t.store ≡ record { block = block; lists = []; loose = replicate pool None } → t.units.items ≡ [] → t.block ≡ block → StoreLaws t.store → length out ≡ block → IsHeapInside bs t pool 0 0 out
+opened_inside B bs t pool block out store units same laws size = record {
   heap = record {
     table = record {
       store = laws;
@@ -99,18 +99,22 @@ opened_inside t pool block out store units same laws size = record {
       units = λ v x at. absurd (no_unit v x at);
       lists = λ v some. absurd (no_list v some);
       inputs = λ v i x k c at. absurd (no_unit v x at);
+      kept = λ v i x s at. absurd (no_unit v x at);
       held = λ i c is. absurd (none_some is);
       counted = λ v j l is. absurd (no_list v (is_some_of _ l is));
       rank = λ v. 0;
       bound = 0;
       below = λ v x at. absurd (no_unit v x at);
       falls = λ v i x c at. absurd (no_unit v x at);
+      keeps_lower = λ v i x s c at. absurd (no_unit v x at);
     };
     read = λ v l is. absurd (no_list v (is_some_of _ l is));
     clean = λ v i x c at. absurd (no_unit v x at);
     needs = λ v i x c at. absurd (no_unit v x at);
     exhausted = λ v i x at. absurd (no_unit v x at);
+    waits = λ v x at. absurd (no_unit v x at);
   };
+  have = λ v x at. absurd (no_unit v x at);
   counted = sym (ap (λ s. length s.loose) store ∙ length-replicate {A = Option (List Rattle.std.proofs.Common.ℤ)} pool None);
   reached = omega arith;
   few = omega arith;
@@ -129,24 +133,24 @@ opened_inside t pool block out store units same laws size = record {
 
 -- ---- units by the table
 
-module _ (B : Type 0) (t : Table) (table : IsTable t []) (fills peak : ℕ) where
-  pub counted_there : (s : Sound) (n : ℕ) → IsCounted {B = B} (state_of t fills peak) s n → IsThere t n
+module _ (B : Type 0) (bs : ℕ → List B) (t : Table) (table : IsTable t []) (fills peak : ℕ) where
+  pub counted_there : (s : Sound) (n : ℕ) → IsCounted {B = B} (state_of bs t fills peak) s n → IsThere t n
   counted_there s n counted =
-      let x = unit_of_node B t fills peak n counted.unit counted.there in
+      let x = unit_of_node B bs t fills peak n counted.unit counted.there in
       let l = table.units n x.0 x.1 in
       there_of t n [] table (is_some_of _ l.0 l.1)
 
-  pub held_there : (s : Sound) (n : ℕ) → Some n ≡ list_of s → IsHeldSound {B = B} (state_of t fills peak) s → IsThere t n
-  held_there s n is held = counted_there s n (subst (IsHeldAt {B = B} (state_of t fills peak) s) (sym is) held.1)
+  pub held_there : (s : Sound) (n : ℕ) → Some n ≡ list_of s → IsHeldSound {B = B} (state_of bs t fills peak) s → IsThere t n
+  held_there s n is held = counted_there s n (subst (IsHeldAt {B = B} (state_of bs t fills peak) s) (sym is) held.1)
 
-  pub unit_is : (n : ℕ) (b : Bool) → IsThere t n → b ≡ is_open_in t n → open_unit {B = B} (state_of t fills peak) (Some n) ≡ cond b (Some n) None
+  pub unit_is : (n : ℕ) (b : Bool) → IsThere t n → b ≡ is_open_in t n → open_unit {B = B} (state_of bs t fills peak) (Some n) ≡ cond b (Some n) None
   unit_is n b u is =
       let filled = filled_is t.store n u.list u.listed in
       let opened : is_open_in t n ≡ nat_lt (filled_in t.store n) (blocks_of t.block u.unit.timing.len) =
       ap (λ (o : Option ListState). option_map_or (λ l. nat_lt (length l.values) (blocks_of t.block l.len)) o false) u.listed
       ∙ ap (λ k. nat_lt k (blocks_of t.block u.list.len)) (sym filled) ∙ ap (λ k. nat_lt (filled_in t.store n) (blocks_of t.block k)) u.len in
-      ap (λ (o : Option (Node B)). option_map_or (λ y. cond (is_open t.block y) (Some n) None) o None) (node_of_unit B t fills peak n u.unit u.there)
+      ap (λ (o : Option (Node B)). option_map_or (λ y. cond (is_open t.block y) (Some n) None) o None) (node_of_unit B bs t fills peak n u.unit u.there)
       ∙ ap (λ p. cond p (Some n) None) (sym opened ∙ sym is)
 
-  pub open_sound : (s : Sound) (n : ℕ) (b : Bool) → Some n ≡ list_of s → IsHeldSound {B = B} (state_of t fills peak) s → b ≡ is_open_in t n → open_unit {B = B} (state_of t fills peak) (list_of s) ≡ cond b (Some n) None
-  open_sound s n b is held opened = ap (open_unit {B = B} (state_of t fills peak)) (sym is) ∙ unit_is n b (held_there s n is held) opened
+  pub open_sound : (s : Sound) (n : ℕ) (b : Bool) → Some n ≡ list_of s → IsHeldSound {B = B} (state_of bs t fills peak) s → b ≡ is_open_in t n → open_unit {B = B} (state_of bs t fills peak) (list_of s) ≡ cond b (Some n) None
+  open_sound s n b is held opened = ap (open_unit {B = B} (state_of bs t fills peak)) (sym is) ∙ unit_is n b (held_there s n is held) opened

@@ -10,7 +10,7 @@ use Rattle.ny_heap.specs.declared.settling.Next.{Next}
 use Rattle.ny_heap.specs.declared.settling.Next.TheVariants.{Stay, Drop, Pass}
 use Rattle.ny_heap.specs.declared.work.Work.{Work}
 use Rattle.ny_heap.specs.Heap.{Reader, blocks_of, taken_after}
-use Rattle.ny_heap.specs.Work.{kind_of, inputs_in, source_at, cursor_at, memory_in, ShowsAll, work_value, MovesOn, Recalls}
+use Rattle.ny_heap.specs.Work.{kind_of, inputs_in, source_at, cursor_at, memory_in, waits_in, ShowsAll, work_value, MovesOn, Recalls}
 use Rattle.ny_heap.specs.Table.{unit_at, timing_at, input_of, mark_in, own_in, IsTable, IsRead, IsThere, KeepsList, computed_in, computed_next_in, is_open_in, lacking_from}
 use Rattle.ny_heap.specs.View.{filled_in, IsHeap}
 
@@ -82,7 +82,8 @@ pub record Settling (t : Table) (u i : ℕ) : Type 0 where
   pub places : (k : ℕ) (c : CursorState) → i ≤ k → k < length unit.inputs.items → cursor_at unit.work k ≡ Some c → c.place ≡ taken_after t.block (kind_of unit.work) unit.timing (timing_at unit k) before
   pub computed : (k : ℕ) (c : CursorState) → i ≤ k → k < length unit.inputs.items → cursor_at unit.work k ≡ Some c → taken_after t.block (kind_of unit.work) unit.timing (timing_at unit k) (before + 1) ≤ computed_in t c.list
 
--- the inputs of unit u from `from` to before `to` moved on to its need, or were dropped, and what only they read is gone
+-- the inputs of unit u from `from` to before `to` moved on to its need, or were dropped, and what only they read is gone. Once it has filled
+-- its last block what its parts that wait keep may be dropped too
 pub record Settles (old new : Table) (u from to : ℕ) : Type 0 where
   pub was : UnitData
   pub there : unit_at old u ≡ Some was
@@ -94,6 +95,7 @@ pub record Settles (old new : Table) (u from to : ℕ) : Type 0 where
   pub inside : (k : ℕ) → from ≤ k → k < to → k < length was.inputs.items → input_of now k ≡ moved_in old.block was (filled_in old.store u) (input_of was k)
   pub outside : (k : ℕ) → (k < from) ⊎ (to ≤ k) → k < length was.inputs.items → cursor_at now.work k ≡ cursor_at was.work k
   pub sources : (k : ℕ) → k < length was.inputs.items → IsReader (source_at now.work k) → IsReader (source_at was.work k)
+  pub waits : (waits_in now.work ≡ waits_in was.work) ⊎ (blocks_of old.block was.timing.len ≤ filled_in old.store u)
   pub block : new.block ≡ old.block
   pub pool : length new.store.loose ≡ length old.store.loose
   pub slots : length new.units.items ≡ length old.units.items
@@ -107,6 +109,18 @@ pub record Settles (old new : Table) (u from to : ℕ) : Type 0 where
 
 -- ---- both
 
+-- unit u has filled its last block, and of what its parts that wait keep some was dropped since
+pub record Forgetting (start now : Table) (u : ℕ) : Type 0 where
+  pub table : IsTable now []
+  pub read : IsRead now
+  pub settles : Settles start now u 0 0
+  pub filled : (x : UnitData) → unit_at start u ≡ Some x → blocks_of start.block x.timing.len ≤ filled_in start.store u
+
+-- what the parts of unit u that wait keep: what they kept, until it has filled its last block
+abbrev pub WaitsStill : Table → Table → ℕ → Type 0
+WaitsStill old new u =
+    (x y : UnitData) → unit_at old u ≡ Some x → unit_at new u ≡ Some y → waits_in y.work ≡ (if nat_lt (filled_in old.store u) (blocks_of old.block x.timing.len) then waits_in x.work else [])
+
 -- unit u has one block more, of these samples, and its inputs moved on to what it needs then
 pub record FillsBlock (old new : Table) (u : ℕ) (out : List ℤ) : Type 0 where
   pub computed : Table
@@ -114,5 +128,6 @@ pub record FillsBlock (old new : Table) (u : ℕ) (out : List ℤ) : Type 0 wher
   pub longer : Table
   pub appends : Appends computed longer u out
   pub settles : Settles longer new u 0 (inputs_in computes.work)
+  pub waits : waits_in settles.now.work ≡ (if nat_lt (filled_in old.store u + 1) (blocks_of old.block computes.unit.timing.len) then waits_in computes.unit.work else [])
   pub table : IsTable new []
   pub read : IsRead new

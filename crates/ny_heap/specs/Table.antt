@@ -1,8 +1,9 @@
 -- How the heap keeps its units and their lists. No public clause cites this module.
-use Rattle.std.specs.Prelude.{◌≡◌, ℕ, zero, suc, ◌+◌, ◌-◌, ◌*◌, ◌^◌, ◌<◌, ◌≤◌, ◌==◌, ◌&&◌, if◌then◌else◌, min, nat_lt, Bool, false, slice_set, List, ◌++◌, map, length, Option, None, Some, IsSome, is_some, count_by, sum_by, slice_index_or, ℤ}
+use Rattle.std.specs.Prelude.{◌≡◌, ℕ, zero, suc, ◌+◌, ◌-◌, ◌*◌, ◌^◌, ◌<◌, ◌≤◌, ◌==◌, ◌&&◌, if◌then◌else◌, min, nat_lt, Bool, false, slice_set, List, ◌++◌, map, length, Option, None, Some, IsSome, is_some, count_by, sum_by, slice_index_or, slice_get, vec_capacity, ℤ}
 use Rattle.std.specs.List.{range_with_len}
-use Rattle.std.specs.Option.{option_map_or, option_map}
+use Rattle.std.specs.Option.{option_map_or, option_map, ForSome}
 use Rattle.ny_num.specs.declared.timing.Timing.{Timing}
+use Rattle.ny_num.specs.Sound.{IsTiming}
 use Rattle.ny_list.specs.Store.{ListState, StoreState, CursorState, list_at, cursors_of}
 use Rattle.ny_list.specs.Steps.{with_list}
 use Rattle.ny_list.specs.Laws.{StoreLaws}
@@ -10,8 +11,9 @@ use Rattle.ny_units.specs.Inputs.{start_of}
 use Rattle.ny_heap.specs.declared.table.Unit.{Unit as UnitData}
 use Rattle.ny_heap.specs.declared.table.Table.{Table}
 use Rattle.ny_heap.specs.declared.work.Work.{Work}
+use Rattle.ny_heap.specs.declared.sound.Sound.{Sound}
 use Rattle.ny_heap.specs.Heap.{Reader, blocks_of, stands_in, is_reader}
-use Rattle.ny_heap.specs.Work.{inputs_in, source_at, cursor_at, need_in, HasGiven}
+use Rattle.ny_heap.specs.Work.{inputs_in, source_at, cursor_at, need_in, HasGiven, waits_in, kept_in, cursors_of_sounds, HasPlaces}
 use Rattle.ny_heap.specs.Tasks.{HasSides, BeginsAt, BringsFrom, Hears}
 
 abbrev pub unit_at : Table → ℕ → Option UnitData
@@ -38,25 +40,25 @@ mark_in s v j = option_map_or (λ l. slice_index_or l.marks j 0) (list_at s v) 0
 abbrev pub len_of : StoreState → ℕ → ℕ
 len_of s v = option_map_or (λ l. l.len) (list_at s v) 0
 
--- those of a unit
-abbrev pub own_of : ℕ → ℕ → ℕ → ℕ → UnitData → ℕ
-own_of block len v j x = sum_by (is_reader block len v j) (readers_of x)
-
--- those of all units
-abbrev pub own_in : Table → ℕ → ℕ → ℕ
-own_in t v j = sum_by (λ o. option_map_or (own_of t.block (len_of t.store v) v j) o 0) t.units.items
-
 -- those among some cursors in hand
 abbrev pub stands_at : ℕ → ℕ → ℕ → ℕ → Option CursorState → ℕ
 stands_at block len v j None = 0
 stands_at block len v j (Some c) = if (c.list == v) && (stands_in block len c.place == j) then 1 else 0
 
+-- those of a unit: of what it reads, and of what its parts that wait keep
+abbrev pub own_of : ℕ → ℕ → ℕ → ℕ → UnitData → ℕ
+own_of block len v j x = sum_by (is_reader block len v j) (readers_of x) + sum_by (stands_at block len v j) (cursors_of_sounds (kept_in x.work))
+
+-- those of all units
+abbrev pub own_in : Table → ℕ → ℕ → ℕ
+own_in t v j = sum_by (λ o. option_map_or (own_of t.block (len_of t.store v) v j) o 0) t.units.items
+
 abbrev pub held_in : Table → List (Option CursorState) → ℕ → ℕ → ℕ
 held_in t cs v j = sum_by (stands_at t.block (len_of t.store v) v j) cs
 
--- the cursors of work, from input i on
+-- the cursors of work, from input i on, and those that its parts that wait keep
 abbrev pub rest_of : Work → ℕ → List (Option CursorState)
-rest_of w i = map (cursor_at w) (range_with_len i (inputs_in w - i))
+rest_of w i = map (cursor_at w) (range_with_len i (inputs_in w - i)) ++ cursors_of_sounds (kept_in w)
 
 -- ---- what holds of units
 
@@ -72,6 +74,9 @@ pub record IsUnit (t : Table) (v : ℕ) (x : UnitData) (l : ListState) : Type 0 
   pub brings : BringsFrom x.work x.inputs.items
   pub hears : Hears x.work x.timing x.inputs.items
   pub given : HasGiven x.work x.timing.len (min (length l.values * t.block) x.timing.len)
+  -- parts that wait, or that were handed out, can be attached
+  pub places : HasPlaces x.work x.pending
+  pub timings : length x.inputs.items + length (waits_in x.work) + x.pending ≤ vec_capacity x.inputs
 
 -- what holds of the cursor of input i of x, which reads this list
 pub record IsInput (t : Table) (x : UnitData) (i : ℕ) (c : CursorState) (l : ListState) : Type 0 where
@@ -79,6 +84,18 @@ pub record IsInput (t : Table) (x : UnitData) (i : ℕ) (c : CursorState) (l : L
   pub sees : c.visible ≡ (timing_at x i).len
   pub visible : c.visible ≤ l.len
   pub computed : c.place ≤ min (length l.values * t.block) l.len
+
+-- a sound at the beginning of its list, of which it shows no more than there is
+pub record ShowsFirst (t : Table) (s : Sound) (c : CursorState) : Type 0 where
+  pub begins : c.place ≡ 0
+  pub some : 0 < s.timing.len
+  pub visible : s.timing.len ≤ len_of t.store c.list
+
+-- a sound that a part keeps: it is at the beginning of a list that is there, or has no sample
+pub record IsKept (t : Table) (s : Sound) : Type 0 where
+  pub bounds : IsTiming s.timing
+  pub none : s.reader ≡ None → s.timing.len ≡ 0
+  pub some : (c : CursorState) → s.reader ≡ Some c → IsSome (list_at t.store c.list) × ShowsFirst t s c
 
 -- also in the midst of a call, where these cursors are in hand: they and those of the units are counted. Each list is a
 -- unit's, each input's list is there, and the units stand in an order in which each reads lower ones
@@ -89,12 +106,14 @@ pub record IsTable (t : Table) (cs : List (Option CursorState)) : Type 0 where
   pub units : (v : ℕ) (x : UnitData) → unit_at t v ≡ Some x → (l : ListState) × (list_at t.store v ≡ Some l) × IsUnit t v x l
   pub lists : (v : ℕ) → IsSome (list_at t.store v) → IsSome (unit_at t v)
   pub inputs : (v i : ℕ) (x : UnitData) (k : ListState) (c : CursorState) → unit_at t v ≡ Some x → list_at t.store v ≡ Some k → i < length x.inputs.items → cursor_at x.work i ≡ Some c → (l : ListState) × (list_at t.store c.list ≡ Some l) × IsInput t x i c l
+  pub kept : (v i : ℕ) (x : UnitData) (s : Sound) → unit_at t v ≡ Some x → slice_get (kept_in x.work) i ≡ Some s → IsKept t s
   pub held : (i : ℕ) (c : CursorState) → slice_index_or cs i None ≡ Some c → IsSome (list_at t.store c.list)
   pub counted : (v j : ℕ) (l : ListState) → list_at t.store v ≡ Some l → own_in t v j + held_in t cs v j ≤ mark_in t.store v j
   pub rank : ℕ → ℕ
   pub bound : ℕ
   pub below : (v : ℕ) (x : UnitData) → unit_at t v ≡ Some x → rank v < bound
   pub falls : (v i : ℕ) (x : UnitData) (c : CursorState) → unit_at t v ≡ Some x → i < length x.inputs.items → cursor_at x.work i ≡ Some c → rank c.list < rank v
+  pub keeps_lower : (v i : ℕ) (x : UnitData) (s : Sound) (c : CursorState) → unit_at t v ≡ Some x → slice_get (kept_in x.work) i ≡ Some s → s.reader ≡ Some c → rank c.list < rank v
 
 -- ---- removal
 

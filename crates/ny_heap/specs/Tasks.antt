@@ -1,5 +1,6 @@
 -- How units begin. No public clause cites this module.
-use Rattle.std.specs.Prelude.{◌≡◌, ℕ, ◌<◌, Bool, true, false, List, [], ◌∷◌, ◌++◌, map, length, Option, None, Some, IsSome, slice_index_or, ℤ, pos}
+use Rattle.std.specs.Prelude.{◌≡◌, ℕ, ◌<◌, Bool, true, false, List, [], ◌∷◌, ◌++◌, map, length, Option, None, Some, IsSome, slice_index_or, Vec, ℤ, pos}
+use Rattle.std.specs.Global.{Global}
 use Rattle.std.specs.Option.{option_map, option_map_or}
 use Rattle.ny_num.specs.declared.timing.Timing.{Timing}
 use Rattle.ny_list.specs.Store.{CursorState}
@@ -23,22 +24,31 @@ use Rattle.ny_num.specs.Resampling.{other_rate_timing}
 use Rattle.ny_units.specs.Resamplings.{BeginsLater}
 use Rattle.ny_filters.specs.Filtering.{IsFilter}
 use Rattle.ny_heap.specs.Steps.{inputs_of, first_memory}
-use Rattle.ny_heap.specs.Work.{kind_of, inputs_in, source_at, begins_in, memory_in, HasGiven}
+use Rattle.ny_heap.specs.Work.{kind_of, inputs_in, source_at, begins_in, memory_in, waits_in, flat, cursors_of_sounds, HasPlaces, HasGiven}
 
 abbrev pub kind_of_task : Task → Kind
 kind_of_task (MadeTask make) = Made make
-kind_of_task MixTask = Mix
+kind_of_task (MixTask waits) = Mix
 kind_of_task ChannelTask = Channel
 
--- the task of a mix, and of a channel
-abbrev pub task_of_mix : Bool → Task
-task_of_mix true = ChannelTask
-task_of_mix false = MixTask
+-- the sounds that each of these keeps
+abbrev pub lists_of : List (Vec Sound Global) → List (List Sound)
+lists_of waits = map (λ (v : Vec Sound Global). v.items) waits
+
+-- what each part of a task that waits keeps
+abbrev pub waits_of_task : Task → List (List Sound)
+waits_of_task (MixTask waits) = lists_of waits.items
+waits_of_task _ = []
+
+-- the task of a mix, in which parts wait that keep these sounds, and of a channel
+abbrev pub task_of_mix : Bool → Vec (Vec Sound Global) Global → Task
+task_of_mix true waits = ChannelTask
+task_of_mix false waits = MixTask waits
 
 -- a task is of so many sounds; a mix may be of any number
 abbrev pub IsCount : Task → ℕ → Type 0
 IsCount (MadeTask make) n = n ≡ inputs_of make
-IsCount MixTask n = Unit {0}
+IsCount (MixTask waits) n = Unit {0}
 IsCount ChannelTask n = n ≡ 1
 
 -- the leaf of a task is one, and has so many samples
@@ -48,7 +58,7 @@ IsTask (MadeTask (Pair op a b)) len = Unit {0}
 IsTask (MadeTask Abs) len = Unit {0}
 IsTask (MadeTask Resample) len = Unit {0}
 IsTask (MadeTask (Filter f)) len = IsFilter f
-IsTask MixTask len = Unit {0}
+IsTask (MixTask waits) len = Unit {0}
 IsTask ChannelTask len = Unit {0}
 
 -- a sound as an input: as far as it is heard, or 0 where it has no sample
@@ -81,7 +91,7 @@ IsReady (MadeTask Resample) [] t = ⊥
 IsReady (MadeTask Resample) (s ∷ ss) t = IsSome s.reader × (t ≡ other_rate_timing t.rate s.timing)
 IsReady (MadeTask (Filter f)) [] t = ⊥
 IsReady (MadeTask (Filter f)) (s ∷ ss) t = IsSome s.reader × (t ≡ s.timing)
-IsReady MixTask sounds t = Unit {0}
+IsReady (MixTask waits) sounds t = Unit {0}
 IsReady ChannelTask sounds t = Unit {0}
 
 -- ---- what holds of each work
@@ -132,7 +142,7 @@ pub record ReadsSound (a : Source) (s : Sound) : Type 0 where
 -- so of a part of a mix. An input of another task is that of the sound
 abbrev pub IsOver : Task → Source → Sound → Type 0
 IsOver (MadeTask make) a s = a ≡ source_of (input_of_sound s)
-IsOver MixTask a s = ReadsSound a s
+IsOver (MixTask waits) a s = ReadsSound a s
 IsOver ChannelTask a s = a ≡ source_of (input_of_sound s)
 
 -- a sound as a part of a mix
@@ -149,6 +159,8 @@ pub record BeginsWork (task : Task) (sounds : List Sound) (t : Timing) (w : Work
   pub begins : BeginsAt w t
   pub brings : BringsFrom w (map (λ s. s.timing) sounds)
   pub hears : Hears w t (map (λ s. s.timing) sounds)
+  pub waits : waits_in w ≡ waits_of_task task
+  pub places : HasPlaces w 0
   pub sources : (i : ℕ) (s : Sound) → i < length sounds → s ≡ slice_index_or sounds i s → IsOver task (source_at w i) s
 
 -- no work begins: the cursor of its only sound is given back
@@ -159,12 +171,12 @@ pub record IsGivenBack (sounds : List Sound) (c : CursorState) : Type 0 where
   pub reads : sound.reader ≡ Some reader
   pub is : c ≡ record reader { visible = sound.timing.len }
 
--- no work begins: of a mix all sounds are left
-abbrev pub AreLeft : List Sound → Unused → Type 0
-AreLeft sounds (One c) = IsGivenBack sounds c
-AreLeft sounds (AllUnused left) = left.items ≡ sounds
+-- no work begins: of a mix all sounds are left, and all that its waiting parts keep
+abbrev pub AreLeft : List Sound → List (List Sound) → Unused → Type 0
+AreLeft sounds waits (One c) = IsGivenBack sounds c × (waits ≡ [])
+AreLeft sounds waits (AllUnused left kept) = (left.items ≡ sounds) × (lists_of kept.items ≡ waits)
 
 -- the cursors of what is left
 abbrev pub cursors_left : Unused → List (Option CursorState)
 cursors_left (One c) = Some c ∷ []
-cursors_left (AllUnused left) = map (λ s. s.reader) left.items
+cursors_left (AllUnused left kept) = cursors_of_sounds (left.items ++ flat (lists_of kept.items))

@@ -1,5 +1,5 @@
 -- What a contract sees of the table. No public clause cites this module.
-use Rattle.std.specs.Prelude.{◌≡◌, ℕ, ◌+◌, ◌-◌, ◌^◌, ◌<◌, ◌≤◌, List, [], ◌∷◌, map, length, Option, None, Some, ℤ}
+use Rattle.std.specs.Prelude.{◌≡◌, ℕ, ◌+◌, ◌-◌, ◌^◌, ◌<◌, ◌≤◌, List, [], ◌∷◌, map, length, Option, None, Some, slice_index_or, ℤ}
 use Rattle.std.specs.List.{range_with_len}
 use Rattle.std.specs.Option.{option_map, option_map_or}
 use Rattle.ny_num.specs.declared.timing.Timing.{Timing}
@@ -7,8 +7,10 @@ use Rattle.ny_list.specs.Store.{StoreState, CursorState, list_at}
 use Rattle.ny_heap.specs.declared.table.Unit.{Unit as UnitData}
 use Rattle.ny_heap.specs.declared.table.Table.{Table}
 use Rattle.ny_units.specs.Inputs.{IsReader}
-use Rattle.ny_heap.specs.Heap.{Node, HeapState, blocks_of, taken_after}
-use Rattle.ny_heap.specs.Work.{kind_of, source_at, cursor_at, memory_in}
+use Rattle.ny_heap.specs.Heap.{Waiting, Node, HeapState, blocks_of, taken_after}
+use Rattle.ny_heap.specs.Steps.{captured_of}
+use Rattle.ny_heap.specs.declared.sound.Sound.{Sound}
+use Rattle.ny_heap.specs.Work.{kind_of, source_at, cursor_at, memory_in, waits_in}
 use Rattle.ny_heap.specs.Table.{unit_at, readers_of, mark_in, own_in, held_in, timing_at, IsTable, IsRead}
 
 -- the stop of the last of these
@@ -24,23 +26,34 @@ filled_in s v = option_map_or (λ l. length l.values) (list_at s v) 0
 abbrev pub outside_in : Table → List (Option CursorState) → ℕ → ℕ → ℕ
 outside_in t cs v j = mark_in t.store v j - (own_in t v j + held_in t cs v j)
 
-abbrev pub node_of : {B : Type 0} → Table → List (Option CursorState) → ℕ → UnitData → Node B
-node_of t cs v x = record {
+-- what the parts that wait are evaluated from, by the number of their unit
+abbrev pub branches_of : {B : Type 0} → List (List B) → ℕ → List B
+branches_of bss v = slice_index_or bss v []
+
+-- parts that wait: what each is evaluated from, with the sounds that it keeps
+abbrev pub waiting_with : {B : Type 0} → List B → List (List Sound) → List (Waiting B)
+waiting_with [] kept = []
+waiting_with (b ∷ bs) [] = []
+waiting_with (b ∷ bs) (ss ∷ kept) = record { branch = b; captured = map captured_of ss } ∷ waiting_with bs kept
+
+-- `branches` has for each unit what its parts that wait are evaluated from
+abbrev pub node_of : {B : Type 0} → (ℕ → List B) → Table → List (Option CursorState) → ℕ → UnitData → Node B
+node_of branches t cs v x = record {
   kind = kind_of x.work;
   timing = x.timing;
   filled = filled_in t.store v;
   inputs = readers_of x;
   memory = memory_in x.work;
   last_stop = last_stop_in 0 x.inputs.items;
-  waiting = [];
-  pending = 0;
+  waiting = waiting_with (branches v) (waits_in x.work);
+  pending = x.pending;
   outside = map (outside_in t cs v) (range_with_len 0 (filled_in t.store v + 1));
 }
 
 -- what a contract sees where these cursors are in hand
-abbrev pub state_with : {B : Type 0} → Table → List (Option CursorState) → ℕ → ℕ → HeapState B
-state_with t cs fills peak = record {
-  nodes = map (λ v. option_map (node_of t cs v) (unit_at t v)) (range_with_len 0 (length t.units.items));
+abbrev pub state_with : {B : Type 0} → (ℕ → List B) → Table → List (Option CursorState) → ℕ → ℕ → HeapState B
+state_with branches t cs fills peak = record {
+  nodes = map (λ v. option_map (node_of branches t cs v) (unit_at t v)) (range_with_len 0 (length t.units.items));
   blocks = map (λ o. option_map_or (λ l. l.values) o []) t.store.lists;
   pool = length t.store.loose;
   block = t.block;
@@ -48,8 +61,16 @@ state_with t cs fills peak = record {
   peak = peak;
 }
 
-abbrev pub state_of : {B : Type 0} → Table → ℕ → ℕ → HeapState B
-state_of t fills peak = state_with t [] fills peak
+abbrev pub state_of : {B : Type 0} → (ℕ → List B) → Table → ℕ → ℕ → HeapState B
+state_of branches t fills peak = state_with branches t [] fills peak
+
+-- each part that waits has something that it is evaluated from
+abbrev pub HaveBranches : {B : Type 0} → (ℕ → List B) → Table → Type 0
+HaveBranches branches t = (v : ℕ) (x : UnitData) → unit_at t v ≡ Some x → length (waits_in x.work) ≤ length (branches v)
+
+-- a unit that has filled its last block waits for nothing
+abbrev pub WaitsForNothing : Table → Type 0
+WaitsForNothing t = (v : ℕ) (x : UnitData) → unit_at t v ≡ Some x → blocks_of t.block x.timing.len ≤ filled_in t.store v → (waits_in x.work ≡ []) × (x.pending ≡ 0)
 
 -- each input has something left to read, and its unit a block left to fill
 abbrev pub IsClean : Table → Type 0
@@ -70,10 +91,12 @@ pub record IsHeap (t : Table) : Type 0 where
   pub clean : IsClean t
   pub needs : IsAtNeed t
   pub exhausted : IsExhausted t
+  pub waits : WaitsForNothing t
 
 -- the fields of a heap between two calls
-pub record IsHeapInside (t : Table) (size fills peak : ℕ) (out : List ℤ) : Type 0 where
+pub record IsHeapInside {B : Type 0} (branches : ℕ → List B) (t : Table) (size fills peak : ℕ) (out : List ℤ) : Type 0 where
   pub heap : IsHeap t
+  pub have : HaveBranches branches t
   pub counted : size ≡ length t.store.loose
   pub reached : peak ≤ size
   pub few : fills < 2 ^ 64

@@ -1,5 +1,5 @@
 -- What units compute, from the lists that they read. No public clause cites this module.
-use Rattle.std.specs.Prelude.{◌≡◌, ℕ, ◌+◌, ◌-◌, ◌∷◌, [], List, length, take, drop, Option, None, IsSomeAnd, is_some, is_none, count_by, slice_index_or, if◌then◌else◌, ℤ, pos}
+use Rattle.std.specs.Prelude.{◌≡◌, ℕ, ◌+◌, ◌-◌, ◌≤◌, ◌∷◌, [], List, ◌++◌, length, map, take, drop, Option, None, IsSomeAnd, is_some, is_none, count_by, slice_index_or, if◌then◌else◌, ℤ, pos}
 use Rattle.std.specs.Option.{option_map_or, ForSome}
 use Rattle.ny_num.specs.Numbers.{sample_abs}
 use Rattle.ny_num.specs.Mix.{sum_at}
@@ -19,6 +19,7 @@ use Rattle.ny_mix.specs.Mixes as mixes
 use Rattle.ny_mix.specs.Mixes.{part_at, CanReadParts}
 use Rattle.ny_units.specs.declared.input.Source.{Source}
 use Rattle.ny_units.specs.declared.input.Source.TheVariants.{Reader, Number}
+use Rattle.ny_heap.specs.declared.sound.Sound.{Sound}
 use Rattle.ny_heap.specs.declared.make.Make.TheVariants.{Leaf, Pair, Abs, Resample, Filter}
 use Rattle.ny_heap.specs.declared.work.Work.{Work}
 use Rattle.ny_heap.specs.declared.work.Work.TheVariants.{Leaf as LeafWork, Pair as PairWork, Abs as AbsWork, Resample as ResampleWork, Filter as FilterWork, Mix as MixWork, Channel as ChannelWork}
@@ -98,6 +99,35 @@ need_in (ResampleWork r) i done = resamplings.taken_after r.from r.to done
 need_in (FilterWork f start) i done = need_of start (Reader f.reader start) done
 need_in (MixWork m) i done = mixes.need_of m.timing.start m.parts i done
 need_in (ChannelWork p) i done = need_of p.start p.input done
+
+-- ---- parts that wait
+
+-- the sounds that each part that waits keeps, in order
+abbrev pub waits_in : Work → List (List Sound)
+waits_in (MixWork m) = map (λ v. v.items) m.waiting
+waits_in _ = []
+
+-- all lists one after another
+abbrev pub flat : {A : Type 0} → List (List A) → List A
+flat [] = []
+flat (xs ∷ rest) = xs ++ flat rest
+
+-- the sounds that all of them keep
+abbrev pub kept_in : Work → List Sound
+kept_in w = flat (waits_in w)
+
+-- without the first part that waits
+abbrev pub without_first : Work → Work
+without_first (MixWork m) = MixWork (record m { waiting = drop 1 m.waiting })
+without_first w = w
+
+-- a mix has room for the parts that it has, those that wait, and so many that were handed out
+abbrev pub HasPlaces : Work → ℕ → Type 0
+HasPlaces (MixWork m) pending = length m.parts + length m.waiting + pending ≤ m.room
+HasPlaces _ pending = pending ≡ 0
+
+abbrev pub cursors_of_sounds : List Sound → List (Option CursorState)
+cursors_of_sounds ss = map (λ (s : Sound). s.reader) ss
 
 -- ---- samples
 

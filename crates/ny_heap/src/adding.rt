@@ -1,13 +1,14 @@
-ghost use Rattle.std.specs.Prelude.{◌≡◌, ◌+◌, ◌^◌, ◌<◌, ◌≤◌, [], map, length, IfOk, OnOk};
+ghost use Rattle.std.specs.Prelude.{◌≡◌, ◌+◌, ◌^◌, ◌<◌, ◌≤◌, [], ◌++◌, map, length, vec_capacity, IfOk, OnOk};
 ghost use Rattle.ny_list.specs.Laws.{StoreLaws};
+ghost use Rattle.ny_heap.specs.Work.{flat, cursors_of_sounds};
 ghost use Rattle.ny_heap.specs.Table.{IsTable, Drops};
 ghost use Rattle.ny_heap.specs.Making.{More, Grows, HasRoom, Places, first_cursor, IsMade};
-ghost use Rattle.ny_heap.specs.Tasks.{IsTask, IsReady, IsCount, kind_of_task, cursors_left};
+ghost use Rattle.ny_heap.specs.Tasks.{IsTask, IsReady, IsCount, kind_of_task, waits_of_task, cursors_left};
 
-use crate::removal::{drop_reader, drop_sounds};
+use crate::removal::{drop_all, drop_reader};
 use crate::sound::{Sound, same_timing};
 use crate::table::{Table, Unit};
-use crate::task::{Task, Unused, begin_work};
+use crate::task::{Task, Unused, begin_work, waiting_in, waits_of};
 use crate::work::Work;
 use ny_list::Cursor;
 use ny_num::Timing;
@@ -45,14 +46,21 @@ fn make_room(table: &mut Table, alloc: Global) -> Result<(), AllocError>
     grow(&mut table.units, places)
 }
 
-// Room for one more unit over these sounds. Answers when they are heard.
-fn prepare(table: &mut Table, alloc: Global, sounds: &[Sound]) -> Result<Vec<Timing>, AllocError>
+// Room for one more unit over these sounds, and for so many parts that wait. Answers when the sounds are heard.
+fn prepare(
+    table: &mut Table,
+    alloc: Global,
+    sounds: &[Sound],
+    waiting: usize,
+) -> Result<Vec<Timing>, AllocError>
     requires { StoreLaws table.old.store }
     ensures grows { Grows table.old table.new }
     ensures room { OnOk result (HasRoom table.new) }
     ensures timings { IfOk result (λ v. v.items ≡ map (λ s. s.timing) sounds.now) }
+    ensures places { IfOk result (λ v. length v.items + waiting ≤ vec_capacity v) }
 {
-    let timings = timings_of(alloc, sounds)?;
+    let mut timings = timings_of(alloc, sounds)?;
+    timings.reserve(waiting)?;
     make_room(table, alloc)?;
     Ok(timings)
 }
@@ -60,7 +68,7 @@ fn prepare(table: &mut Table, alloc: Global, sounds: &[Sound]) -> Result<Vec<Tim
 // Adds a unit that does this work. Answers a cursor at its beginning.
 fn add_unit(table: &mut Table, inputs: Vec<Timing>, work: Work, timing: Timing) -> Cursor
     requires { HasRoom table.old }
-    ensures places { Places table.old table.new result.list work timing inputs.items }
+    ensures places { Places table.old table.new result.list work timing inputs }
     ensures cursor { result ≡ first_cursor result.list timing.len }
 {
     let (list, cursor) = table.store.new_list(timing.len, 0);
@@ -70,6 +78,7 @@ fn add_unit(table: &mut Table, inputs: Vec<Timing>, work: Work, timing: Timing) 
         timing,
         inputs,
         list,
+        pending: 0,
     });
     cursor
 }
@@ -81,13 +90,13 @@ fn drop_unused(table: &mut Table, unused: Unused)
 {
     match unused {
         Unused::One(cursor) => drop_reader(table, cursor),
-        Unused::All(sounds) => drop_sounds(table, sounds),
+        Unused::All(sounds, waits) => drop_all(table, sounds, waits),
     }
 }
 
 /// Adds a unit for this task over these sounds, where it has a sample. Where it has none there is
-/// no unit, and the sounds are dropped, as they are where memory is missing. Answers a cursor at its
-/// beginning.
+/// no unit, and the sounds are dropped, with those that parts were to keep, as they are where memory
+/// is missing. Answers a cursor at its beginning.
 pub(crate) fn make_unit(
     table: &mut Table,
     alloc: Global,
@@ -95,20 +104,20 @@ pub(crate) fn make_unit(
     sounds: Vec<Sound>,
     timing: Timing,
 ) -> Result<Option<Cursor>, AllocError>
-    requires table { IsTable table.old (map (λ s. s.reader) sounds.items) }
+    requires table { IsTable table.old (cursors_of_sounds (sounds.items ++ flat (waits_of_task task))) }
     requires early { timing.start + timing.len < 2 ^ 32 }
     requires count { IsCount task (length sounds.items) }
     requires task { 0 < timing.len → IsTask task timing.len }
     requires ready { 0 < timing.len → IsReady task sounds.items timing }
-    ensures { IsMade table.old table.new (kind_of_task task) timing sounds.items result }
+    ensures { IsMade table.old table.new (kind_of_task task) timing sounds.items (waits_of_task task) result }
 {
     if timing.len == 0 {
-        drop_sounds(table, sounds);
+        drop_all(table, sounds, waits_of(alloc, task));
         return Ok(None);
     }
-    match prepare(table, alloc, sounds.as_slice()) {
+    match prepare(table, alloc, sounds.as_slice(), waiting_in(&task)) {
         Err(e) => {
-            drop_sounds(table, sounds);
+            drop_all(table, sounds, waits_of(alloc, task));
             Err(e)
         }
         Ok(inputs) => match begin_work(alloc, task, sounds, &timing) {

@@ -23,7 +23,8 @@ use ny_num::{Sample, Ticks, Timing};
 use ny_pool::SlotId;
 use ny_wave::Waves;
 use std::alloc::{AllocError, Global};
-use std::marker::{Model, PhantomData};
+use std::collections::VecDeque;
+use std::marker::Model;
 
 /// The number of a unit of a [`Heap`].
 #[derive(Clone, Copy, Debug, PartialEq, Eq)]
@@ -59,19 +60,22 @@ pub struct Heap<B> {
     out: Vec<Sample>,
     // What leaves with waves are computed from.
     waves: Waves,
-    branches: PhantomData<B>,
+    // What the parts that wait are evaluated from, by the number of their unit.
+    branches: Vec<VecDeque<B>>,
 }
 
 impl<B> Model for Heap<B> {
+    ghost use Rattle.std.specs.Prelude.{map};
+    ghost use Rattle.std.specs.VecDeque.{deque_items};
     ghost use Rattle.ny_heap.specs.Heap.{HeapState};
 
     ghost Value = { HeapState B };
 
-    ghost use Rattle.ny_heap.specs.View.{state_of, IsHeapInside};
+    ghost use Rattle.ny_heap.specs.View.{branches_of, state_of, IsHeapInside};
 
-    ghost view = { λ h. state_of h.table h.fills h.peak };
+    ghost view = { λ h. state_of (branches_of (map deque_items h.branches.items)) h.table h.fills h.peak };
 
-    ghost invariant = { λ h. IsHeapInside h.table h.size h.fills h.peak h.out.items };
+    ghost invariant = { λ h. IsHeapInside (branches_of (map deque_items h.branches.items)) h.table h.size h.fills h.peak h.out.items };
 }
 
 impl<B> Heap<B> {
@@ -99,7 +103,7 @@ impl<B> Heap<B> {
             peak: 0,
             out,
             waves: Waves::all(),
-            branches: PhantomData,
+            branches: Vec::new(alloc),
         })
     }
 
@@ -157,7 +161,7 @@ impl<B> Heap<B> {
     {
         waiting.destroy_empty();
         let when = same_timing(&timing);
-        let made = make_unit(&mut self.table, alloc, mix_task(channel), parts, timing)?;
+        let made = make_unit(&mut self.table, alloc, mix_task(channel, Vec::new(alloc)), parts, timing)?;
         Ok(begin(made, when))
     }
 

@@ -1,12 +1,13 @@
-ghost use Rattle.std.specs.Prelude.{◌≡◌, ◌+◌, []};
+ghost use Rattle.std.specs.Prelude.{◌≡◌, ◌+◌, [], ◌∷◌, IsSome, MatchOption};
 ghost use Rattle.std.specs.Option.{ForSome};
 ghost use Rattle.ny_units.specs.Inputs.{IsReader};
-ghost use Rattle.ny_heap.specs.Work.{inputs_in, source_at, cursor_at, without_cursor_at, with_cursor_at};
+ghost use Rattle.ny_heap.specs.Work.{inputs_in, source_at, cursor_at, without_cursor_at, with_cursor_at, waits_in, without_first};
 ghost use Rattle.ny_heap.specs.declared.settling.Next.TheVariants.{Drop, Pass};
 ghost use Rattle.ny_heap.specs.Table.{unit_at, IsTable, IsRead};
-ghost use Rattle.ny_heap.specs.Filling.{Reworks, HasInput, IsNextOf, Settling, Settles};
+ghost use Rattle.ny_heap.specs.Filling.{Reworks, HasInput, IsNextOf, Settling, Settles, Forgetting, WaitsStill};
 
-use crate::removal::drop_reader;
+use crate::removal::{drop_reader, drop_sounds};
+use crate::sound::Sound;
 use crate::table::{Table, computed, inputs_of, is_unfilled, unit_of};
 use ny_list::Cursor;
 
@@ -95,8 +96,8 @@ fn settle(table: &mut Table, u: u32, i: u32)
     }
 }
 
-/// Gives back what a unit's inputs have passed, and drops the cursors of those with which it has done.
-pub(crate) fn settle_all(table: &mut Table, u: u32)
+// Gives back what a unit's inputs have passed, and drops the cursors of those with which it has done.
+fn settle_inputs(table: &mut Table, u: u32)
     requires settling { Settling table.old u 0 }
     ensures settles { ForSome (unit_at table.old u) (λ x. Settles table.old table.new u 0 (inputs_in x.work)) }
     ensures table { IsTable table.new [] }
@@ -106,4 +107,41 @@ pub(crate) fn settle_all(table: &mut Table, u: u32)
     for i in first..inputs_of(table, u) {
         settle(table, u, i);
     }
+}
+
+// Takes out what the first part of a unit that waits keeps.
+fn take_waiting(table: &mut Table, u: u32) -> Option<Vec<Sound>>
+    requires there { IsSome (unit_at table.old u) }
+    ensures first { ForSome (unit_at table.old u) (λ x. MatchOption result (waits_in x.work ≡ []) (λ kept. waits_in x.work ≡ kept.items ∷ waits_in (without_first x.work))) }
+    ensures taken { ForSome (unit_at table.old u) (λ x. Reworks table.old table.new u x (without_first x.work)) }
+{
+    let unit = table.units[u as usize].as_mut().unwrap();
+    unit.work.next_waiting()
+}
+
+// A unit that has filled its last block waits for nothing: what its parts keep is dropped.
+fn forget_waiting(table: &mut Table, u: u32)
+    requires forgetting { Forgetting table.old table.old u }
+    ensures forgetting { Forgetting table.old table.new u }
+    ensures none { ForSome (unit_at table.new u) (λ x. waits_in x.work ≡ []) }
+{
+    while let Some(kept) = take_waiting(table, u) {
+        drop_sounds(table, kept);
+    }
+}
+
+/// Gives back what a unit's inputs have passed, and drops the cursors of those with which it has done. Once its last block
+/// is filled it waits for nothing.
+pub(crate) fn settle_all(table: &mut Table, u: u32)
+    requires settling { Settling table.old u 0 }
+    ensures settles { ForSome (unit_at table.old u) (λ x. Settles table.old table.new u 0 (inputs_in x.work)) }
+    ensures waits { WaitsStill table.old table.new u }
+    ensures table { IsTable table.new [] }
+    ensures read { IsRead table.new }
+{
+    settle_inputs(table, u);
+    if is_unfilled(table, u) {
+        return;
+    }
+    forget_waiting(table, u);
 }

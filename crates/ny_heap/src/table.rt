@@ -15,6 +15,8 @@ pub(crate) struct Unit {
     /// When what it reads is heard.
     pub(crate) inputs: Vec<Timing>,
     pub(crate) list: List,
+    /// How many parts were handed out and are still to be attached.
+    pub(crate) pending: u32,
 }
 
 /// The units, each by the number of its list, and the lists.

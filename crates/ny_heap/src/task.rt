@@ -3,7 +3,7 @@ ghost use Rattle.ny_heap.specs.declared.task.Task.TheVariants.{Made as MadeTask,
 ghost use Rattle.ny_heap.specs.declared.make.Make.TheVariants.{Pair as PairMake, Resample as ResampleMake, Filter as FilterMake};
 ghost use Rattle.ny_filters.specs.Filtering.{IsFilter};
 ghost use Rattle.ny_heap.specs.Steps.{inputs_of};
-ghost use Rattle.ny_heap.specs.Tasks.{IsTask, IsCount, input_of_sound, part_of, task_of_mix, BeginsWork, IsGivenBack, AreLeft, IsReady, TakesLast, TakesSide, HasSide};
+ghost use Rattle.ny_heap.specs.Tasks.{IsTask, IsCount, input_of_sound, part_of, lists_of, waits_of_task, task_of_mix, BeginsWork, IsGivenBack, AreLeft, IsReady, TakesLast, TakesSide, HasSide};
 
 use crate::make::Make;
 use crate::sound::{Sound, same_timing};
@@ -21,15 +21,40 @@ use std::collections::VecDeque;
 #[derive(Drop)]
 pub(crate) enum Task {
     Made(Make),
-    Mix,
+    /// A mix, with the sounds that each part that waits keeps.
+    Mix(Vec<Vec<Sound>>),
     Channel,
 }
 
-/// The task of a mix, or of a channel.
-pub(crate) fn mix_task(channel: bool) -> Task
-    ensures { result ≡ task_of_mix channel }
+/// The task of a mix, in which parts wait that keep these sounds, or of a channel, in which none waits.
+pub(crate) fn mix_task(channel: bool, waits: Vec<Vec<Sound>>) -> Task
+    ensures { result ≡ task_of_mix channel waits }
 {
-    if channel { Task::Channel } else { Task::Mix }
+    if channel {
+        Task::Channel
+    } else {
+        Task::Mix(waits)
+    }
+}
+
+/// How many parts of a task wait.
+pub(crate) fn waiting_in(task: &Task) -> usize
+    ensures { result ≡ length (waits_of_task task.now) }
+{
+    match task {
+        Task::Mix(waits) => waits.len(),
+        _ => 0,
+    }
+}
+
+/// The sounds that each part of a task that waits keeps.
+pub(crate) fn waits_of(alloc: Global, task: Task) -> Vec<Vec<Sound>>
+    ensures { lists_of result.items ≡ waits_of_task task }
+{
+    match task {
+        Task::Mix(waits) => waits,
+        _ => Vec::new(alloc),
+    }
 }
 
 /// What is left of a task's sounds where memory for its work is missing.
@@ -37,7 +62,8 @@ pub(crate) fn mix_task(channel: bool) -> Task
 pub(crate) enum Unused {
     /// The cursor of the only sound.
     One(Cursor),
-    All(Vec<Sound>),
+    /// All sounds, and what each part that waits was to keep.
+    All(Vec<Sound>, Vec<Vec<Sound>>),
 }
 
 // A sound as a unit's input: as far as it is heard, or 0 where it has no sample.
@@ -115,7 +141,7 @@ fn begin_filter(
     requires filter { IsFilter f }
     requires ready { IsReady (MadeTask (FilterMake f)) sounds.items timing.now }
     ensures begins { IfOk result (BeginsWork (MadeTask (FilterMake f)) sounds.items timing.now) }
-    ensures left { IfErr result (AreLeft sounds.items) }
+    ensures left { IfErr result (AreLeft sounds.items []) }
 {
     let cursor = last_cursor(&mut sounds);
     match FilterUnit::of(alloc, f, cursor) {
@@ -151,20 +177,25 @@ fn attach_all(mix: &mut Mix<Vec<Sound>>, sounds: Vec<Sound>)
     }
 }
 
-// A mix of these sounds. There may be 2^32 - 1 of them.
-fn begin_mix(alloc: Global, sounds: Vec<Sound>, timing: &Timing) -> Result<Work, Unused>
-    ensures begins { IfOk result (BeginsWork MixTask sounds.items timing.now) }
-    ensures left { IfErr result (AreLeft sounds.items) }
+// A mix of these sounds, in which parts wait that keep others. There may be 2^32 - 1 of both together.
+fn begin_mix(
+    alloc: Global,
+    sounds: Vec<Sound>,
+    waits: Vec<Vec<Sound>>,
+    timing: &Timing,
+) -> Result<Work, Unused>
+    ensures begins { IfOk result (BeginsWork (MixTask waits) sounds.items timing.now) }
+    ensures left { IfErr result (AreLeft sounds.items (lists_of waits.items)) }
 {
     let Ok(count) = u32::try_from(sounds.len()) else {
-        return Err(Unused::All(sounds));
+        return Err(Unused::All(sounds, waits));
     };
-    match Mix::open(alloc, same_timing(timing), count, Vec::new(alloc)) {
+    match Mix::open(alloc, same_timing(timing), count, waits) {
         Ok(mut mix) => {
             attach_all(&mut mix, sounds);
             Ok(Work::Mix(mix))
         }
-        Err(_) => Err(Unused::All(sounds)),
+        Err(waits) => Err(Unused::All(sounds, waits)),
     }
 }
 
@@ -189,7 +220,7 @@ fn begin_make(
     requires task { (len : ℕ) × IsTask (MadeTask make) len }
     requires ready { IsReady (MadeTask make) sounds.items timing.now }
     ensures begins { IfOk result (BeginsWork (MadeTask make) sounds.items timing.now) }
-    ensures left { IfErr result (AreLeft sounds.items) }
+    ensures left { IfErr result (AreLeft sounds.items []) }
 {
     match make {
         Make::Leaf(leaf) => Ok(Work::Leaf(LeafUnit::of(leaf))),
@@ -214,11 +245,11 @@ pub(crate) fn begin_work(
     requires task { (len : ℕ) × IsTask task len }
     requires ready { IsReady task sounds.items timing.now }
     ensures begins { IfOk result (BeginsWork task sounds.items timing.now) }
-    ensures left { IfErr result (AreLeft sounds.items) }
+    ensures left { IfErr result (AreLeft sounds.items (waits_of_task task)) }
 {
     match task {
         Task::Made(make) => begin_make(alloc, make, sounds, timing),
-        Task::Mix => begin_mix(alloc, sounds, timing),
+        Task::Mix(waits) => begin_mix(alloc, sounds, waits, timing),
         Task::Channel => Ok(Work::Channel(CopyUnit::of(last_input(&mut sounds), timing.start))),
     }
 }

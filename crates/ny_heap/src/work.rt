@@ -1,6 +1,6 @@
-ghost use Rattle.std.specs.Prelude.{◌≡◌, ℕ, ◌+◌, ◌<◌, ◌≤◌, ◌^◌, is_some, if◌then◌else◌, ℤ, List, length, option_copied, slice_index_or, pos, None};
+ghost use Rattle.std.specs.Prelude.{◌≡◌, ℕ, ◌+◌, ◌<◌, ◌≤◌, ◌^◌, ◌∷◌, [], is_some, if◌then◌else◌, ℤ, List, length, option_copied, slice_index_or, pos, None, MatchOption};
 ghost use Rattle.ny_units.specs.Inputs.{IsReader};
-ghost use Rattle.ny_heap.specs.Work.{kind_of, inputs_in, side_in, source_at, cursor_at, without_cursor_at, with_cursor_at, need_in, HasGiven, CanWork, ShowsAll, work_value, MovesOn, Recalls};
+ghost use Rattle.ny_heap.specs.Work.{kind_of, inputs_in, side_in, source_at, cursor_at, without_cursor_at, with_cursor_at, need_in, waits_in, without_first, HasGiven, CanWork, ShowsAll, work_value, MovesOn, Recalls};
 
 use crate::sound::Sound;
 use ny_filters::FilterUnit;
@@ -20,7 +20,7 @@ pub(crate) enum Work {
     Resample(ResampleUnit),
     /// A filter, and the index where it begins.
     Filter(FilterUnit, u32),
-    /// A mix. No part waits so far.
+    /// A mix. What each part that waits keeps lies in it.
     Mix(Mix<Vec<Sound>>),
     Channel(CopyUnit),
 }
@@ -116,6 +116,22 @@ impl Work {
             Work::Filter(unit, _) => unit.put_cursor(i, c),
             Work::Mix(mix) => mix.put_cursor(i, c),
             Work::Channel(unit) => unit.put_cursor(i, c),
+        }
+    }
+
+    /// Takes out what the first part that waits keeps; none exactly where no part waits.
+    pub(crate) fn next_waiting(&mut self) -> Option<Vec<Sound>>
+        ensures first { MatchOption result (waits_in self.old ≡ []) (λ kept. waits_in self.old ≡ kept.items ∷ waits_in self.new) }
+        ensures taken { self.new ≡ without_first self.old }
+    {
+        match self {
+            Work::Leaf(_) => None,
+            Work::Pair(_, _, _) => None,
+            Work::Abs(_) => None,
+            Work::Resample(_) => None,
+            Work::Filter(_, _) => None,
+            Work::Mix(mix) => mix.next(),
+            Work::Channel(_) => None,
         }
     }
 

@@ -1,4 +1,4 @@
-use Rattle.ny_heap.proofs.GrowLemmas.{More-one}
+use Rattle.ny_heap.proofs.RoomLemmas.{More-one}
 use Rattle.ny_heap.proofs.adding.grow.Goals as goal
 
 pub loop-units-preserved : goal.loop-units-preserved

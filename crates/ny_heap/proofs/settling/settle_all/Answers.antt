@@ -1,22 +1,39 @@
-use Rattle.std.proofs.Common.{◌≡◌, ℕ, ◌<◌, None, sym, subst, ◌∙◌, arith}
+use Rattle.std.proofs.Common.{◌≡◌, ◌∙◌, sym, subst}
 use Rattle.ny_list.proofs.IndexLemmas.{same_some}
 use Rattle.ny_heap.specs.declared.table.Unit.{Unit as UnitData}
-use Rattle.ny_heap.specs.Work.{cursor_at}
-use Rattle.ny_heap.proofs.GoingLemmas.{Going-begun, going_input, Going-more, Going-done}
+use Rattle.ny_heap.specs.Work.{inputs_in}
+use Rattle.ny_heap.specs.Filling.{Settles}
+use Rattle.ny_heap.proofs.ForgetLemmas.{settled_there, WaitsStill-open, Forgetting-begun, Settles-forgot, WaitsStill-forgot}
 use Rattle.ny_heap.proofs.settling.settle_all.Goals as goal
 
-pub loop-i-init : goal.loop-i-init
-loop-i-init c =
-    Going-begun c.args.table.now c.args.u c.inputs_of-i-end.result c.over-first.result c.requires.settling c.inputs_of-i-end.ensures
-    (λ x at. subst (λ (y : UnitData). (k : ℕ) → k < c.over-first.result → cursor_at y.work k ≡ None) (same_some (sym c.unit_of.ensures ∙ at)) c.over-first.ensures.gone)
+pub is_unfilled-requires-clause-there : goal.is_unfilled-requires-clause-there
+is_unfilled-requires-clause-there c =
+    let s = c.requires.settling in
+    settled_there c.args.table.now c.settle_inputs.new.table c.args.u (inputs_in s.unit.work) c.settle_inputs.ensures.table c.settle_inputs.ensures.read (c.settle_inputs.ensures.settles s.unit s.there)
 
-pub settle-requires-clause-inside : goal.settle-requires-clause-inside
-settle-requires-clause-inside c = going_input c.args.table.now c.loop-i.table c.args.u c.inputs_of-i-end.result c.loop-i.i c.loop-i.invariant c.loop-i-test.true
+pub returns-then-is_unfilled-clause-waits : goal.returns-then-is_unfilled-clause-waits
+returns-then-is_unfilled-clause-waits c =
+    let s = c.requires.settling in
+    WaitsStill-open c.args.table.now c.settle_inputs.new.table c.args.u (inputs_in s.unit.work) c.settle_inputs.ensures.table c.settle_inputs.ensures.read (c.settle_inputs.ensures.settles s.unit s.there)
+    (sym c.is_unfilled.ensures ∙ c.if-is_unfilled.true)
 
-pub loop-i-preserved : goal.loop-i-preserved
-loop-i-preserved c =
-    Going-more c.args.table.now c.loop-i.table c.args.u c.inputs_of-i-end.result c.loop-i.i c.loop-i.invariant c.settle.new.table c.settle.ensures.settling c.settle.ensures.settles
+pub forget_waiting-requires : goal.forget_waiting-requires
+forget_waiting-requires c =
+    let s = c.requires.settling in
+    record {
+      forgetting = Forgetting-begun c.args.table.now c.settle_inputs.new.table c.args.u (inputs_in s.unit.work) c.settle_inputs.ensures.table c.settle_inputs.ensures.read (c.settle_inputs.ensures.settles s.unit s.there)
+          (sym c.is_unfilled.ensures ∙ c.if-is_unfilled.false);
+    }
 
 pub returns-clause-settles : goal.returns-clause-settles
 returns-clause-settles c = λ x at.
-    Going-done c.args.table.now c.loop-i.table c.args.u c.inputs_of-i-end.result c.loop-i.i c.loop-i.invariant x at c.loop-i-test.false (c.loop-i.auto.i-end (omega (arith, c.over-first.ensures.inside, c.inputs_of-i-end.ensures c.unit_of.result.now c.unit_of.ensures)))
+    let s = c.requires.settling in
+    subst (λ (y : UnitData). Settles c.args.table.now c.forget_waiting.new.table c.args.u 0 (inputs_in y.work)) (same_some (sym s.there ∙ at))
+    (Settles-forgot c.args.table.now c.settle_inputs.new.table c.args.u (inputs_in s.unit.work) c.settle_inputs.ensures.table c.settle_inputs.ensures.read (c.settle_inputs.ensures.settles s.unit s.there)
+    (sym c.is_unfilled.ensures ∙ c.if-is_unfilled.false) c.forget_waiting.new.table c.forget_waiting.ensures.forgetting)
+
+pub returns-clause-waits : goal.returns-clause-waits
+returns-clause-waits c =
+    let s = c.requires.settling in
+    WaitsStill-forgot c.args.table.now c.settle_inputs.new.table c.args.u (inputs_in s.unit.work) c.settle_inputs.ensures.table c.settle_inputs.ensures.read (c.settle_inputs.ensures.settles s.unit s.there)
+    (sym c.is_unfilled.ensures ∙ c.if-is_unfilled.false) c.forget_waiting.new.table c.forget_waiting.ensures.forgetting c.forget_waiting.ensures.none

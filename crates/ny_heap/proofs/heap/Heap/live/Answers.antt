@@ -1,16 +1,19 @@
-use Rattle.std.proofs.Common.{◌≡◌, ◌-◌, subst, arith}
+use Rattle.std.proofs.Common.{◌≡◌, ◌-◌, subst, arith, map, deque_items}
 use Rattle.ny_heap.specs.Heap.{live_of}
 use Rattle.ny_heap.specs.Reach.{HeapLaws}
+use Rattle.ny_heap.specs.View.{branches_of}
 use Rattle.ny_heap.proofs.LawLemmas.{heap_laws, live_is}
 use Rattle.ny_heap.proofs.heap.Heap.live.Goals as goal
 
 pub returns-clause-live : goal.returns-clause-live
 returns-clause-live g c =
     let i = c.self.inside in
+    let bs = branches_of (map deque_items i.branches.items) in
     subst (λ s. i.size - c.free.result ≡ live_of {B = g.row.B.Denot} s) c.self.view_is
-    (omega (arith, c.free.ensures.free, c.free.ensures.laws.taken, c.self.invariant.counted, live_is g.row.B.Denot i.table c.self.invariant.heap i.fills i.peak))
+    (omega (arith, c.free.ensures.free, c.free.ensures.laws.taken, c.self.invariant.counted, live_is g.row.B.Denot bs i.table c.self.invariant.heap c.self.invariant.have i.fills i.peak))
 
 pub returns-clause-laws : goal.returns-clause-laws
 returns-clause-laws g c =
     let i = c.self.inside in
-    subst (HeapLaws {B = g.row.B.Denot}) c.self.view_is (heap_laws g.row.B.Denot i.table c.self.invariant.heap i.fills i.peak)
+    let bs = branches_of (map deque_items i.branches.items) in
+    subst (HeapLaws {B = g.row.B.Denot}) c.self.view_is (heap_laws g.row.B.Denot bs i.table c.self.invariant.heap c.self.invariant.have i.fills i.peak)

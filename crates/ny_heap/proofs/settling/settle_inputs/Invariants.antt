@@ -1,5 +1,5 @@
 use Rattle.ny_heap.proofs.GoingLemmas.{Going}
-use Rattle.ny_heap.proofs.settling.settle_all.Given as goal
+use Rattle.ny_heap.proofs.settling.settle_inputs.Given as goal
 
 -- the inputs before this one have moved on
 abbrev pub invariant-loop-i : goal.invariant-loop-i
