@@ -48,3 +48,6 @@ pub mod GoingLemmas
 pub mod RevealMeans
 pub mod RaiseLemmas
 pub mod ForgetLemmas
+pub mod StopLemmas
+pub mod HandOutLemmas
+pub mod AttachLemmas

@@ -9,5 +9,7 @@ pub mod Tasks
 pub mod Table
 pub mod View
 pub mod Making
+pub mod Mixing
 pub mod Filling
 pub mod Revealing
+pub mod Attaching

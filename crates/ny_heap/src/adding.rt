@@ -1,4 +1,6 @@
-ghost use Rattle.std.specs.Prelude.{◌≡◌, ◌+◌, ◌^◌, ◌<◌, ◌≤◌, [], ◌++◌, map, length, vec_capacity, IfOk, OnOk};
+ghost use Rattle.std.specs.Prelude.{◌≡◌, ℕ, ◌+◌, ◌^◌, ◌<◌, ◌≤◌, [], ◌++◌, map, length, slice_index_or, vec_capacity, IfOk, OnOk};
+ghost use Rattle.std.specs.Option.{ForSome};
+ghost use Rattle.std.specs.VecDeque.{deque_items};
 ghost use Rattle.ny_list.specs.Laws.{StoreLaws};
 ghost use Rattle.ny_heap.specs.Work.{flat, cursors_of_sounds};
 ghost use Rattle.ny_heap.specs.Table.{IsTable, Drops};
@@ -13,6 +15,7 @@ use crate::work::Work;
 use ny_list::Cursor;
 use ny_num::Timing;
 use std::alloc::{AllocError, Global};
+use std::collections::VecDeque;
 
 // When these sounds are heard.
 fn timings_of(alloc: Global, sounds: &[Sound]) -> Result<Vec<Timing>, AllocError>
@@ -46,9 +49,26 @@ fn make_room(table: &mut Table, alloc: Global) -> Result<(), AllocError>
     grow(&mut table.units, places)
 }
 
+// At least so many places for what parts that wait are evaluated from, one for each unit.
+fn grow_branches<B>(
+    branches: &mut Vec<VecDeque<B>>,
+    alloc: Global,
+    places: usize,
+) -> Result<(), AllocError>
+    ensures same { (v : ℕ) → slice_index_or (map deque_items branches.new.items) v [] ≡ slice_index_or (map deque_items branches.old.items) v [] }
+    ensures places { OnOk result (places ≤ length branches.new.items) }
+{
+    branches.reserve(places.saturating_sub(branches.len()))?;
+    while branches.len() < places {
+        branches.push_reserved(VecDeque::new(alloc));
+    }
+    Ok(())
+}
+
 // Room for one more unit over these sounds, and for so many parts that wait. Answers when the sounds are heard.
-fn prepare(
+fn prepare<B>(
     table: &mut Table,
+    branches: &mut Vec<VecDeque<B>>,
     alloc: Global,
     sounds: &[Sound],
     waiting: usize,
@@ -58,10 +78,13 @@ fn prepare(
     ensures room { OnOk result (HasRoom table.new) }
     ensures timings { IfOk result (λ v. v.items ≡ map (λ s. s.timing) sounds.now) }
     ensures places { IfOk result (λ v. length v.items + waiting ≤ vec_capacity v) }
+    ensures same { (v : ℕ) → slice_index_or (map deque_items branches.new.items) v [] ≡ slice_index_or (map deque_items branches.old.items) v [] }
+    ensures branches { OnOk result (length table.new.units.items ≤ length branches.new.items) }
 {
     let mut timings = timings_of(alloc, sounds)?;
     timings.reserve(waiting)?;
     make_room(table, alloc)?;
+    grow_branches(branches, alloc, table.units.as_slice().len())?;
     Ok(timings)
 }
 
@@ -96,9 +119,10 @@ fn drop_unused(table: &mut Table, unused: Unused)
 
 /// Adds a unit for this task over these sounds, where it has a sample. Where it has none there is
 /// no unit, and the sounds are dropped, with those that parts were to keep, as they are where memory
-/// is missing. Answers a cursor at its beginning.
-pub(crate) fn make_unit(
+/// is missing. Answers a cursor at its beginning. The unit has a place in `branches`.
+pub(crate) fn make_unit<B>(
     table: &mut Table,
+    branches: &mut Vec<VecDeque<B>>,
     alloc: Global,
     task: Task,
     sounds: Vec<Sound>,
@@ -109,13 +133,15 @@ pub(crate) fn make_unit(
     requires count { IsCount task (length sounds.items) }
     requires task { 0 < timing.len → IsTask task timing.len }
     requires ready { 0 < timing.len → IsReady task sounds.items timing }
-    ensures { IsMade table.old table.new (kind_of_task task) timing sounds.items (waits_of_task task) result }
+    ensures made { IsMade table.old table.new (kind_of_task task) timing sounds.items (waits_of_task task) result }
+    ensures same { (v : ℕ) → slice_index_or (map deque_items branches.new.items) v [] ≡ slice_index_or (map deque_items branches.old.items) v [] }
+    ensures room { IfOk result (λ o. ForSome o (λ c. c.list < length branches.new.items)) }
 {
     if timing.len == 0 {
         drop_all(table, sounds, waits_of(alloc, task));
         return Ok(None);
     }
-    match prepare(table, alloc, sounds.as_slice(), waiting_in(&task)) {
+    match prepare(table, branches, alloc, sounds.as_slice(), waiting_in(&task)) {
         Err(e) => {
             drop_all(table, sounds, waits_of(alloc, task));
             Err(e)

@@ -11,6 +11,7 @@ ghost use Rattle.ny_heap.specs.Steps.{IsHeldSound, with_sound, without_sound, wi
 use crate::adding::make_unit;
 use crate::filling::fill_block;
 use crate::make::Make;
+use crate::mixing::{drop_parts, place_branches, split};
 use crate::reading::read_next;
 use crate::removal::drop_reader;
 use crate::sharing::{moved, readers, share_reader};
@@ -128,40 +129,7 @@ impl<B> Heap<B> {
         ensures keeps { OnErr result (KeepsMeaning self.old self.new) }
     {
         let when = same_timing(&timing);
-        let made = make_unit(&mut self.table, alloc, Task::Made(make), inputs, timing)?;
-        Ok(begin(made, when))
-    }
-
-    /// A unit that mixes these parts, heard as `timing` says, and a sound that reads it. Where it has
-    /// no sample there is no unit. A channel is a mix of one part. The sounds in `parts` and in
-    /// `waiting` are spent.
-    ///
-    /// So far no part waits.
-    ///
-    /// # Errors
-    /// `AllocError` where memory is missing. The sounds in `parts` and in `waiting` are spent
-    /// nevertheless.
-    pub fn make_mix(
-        &mut self,
-        alloc: Global,
-        parts: Vec<Sound>,
-        waiting: Vec<(B, Vec<Sound>)>,
-        timing: Timing,
-        channel: bool,
-    ) -> Result<Sound, AllocError>
-        requires mix { IsMixOf parts.items timing }
-        requires waits { length waiting.items ≡ 0 }
-        requires channel { IsTrue channel → length parts.items ≡ 1 }
-        requires inputs { AreHeld self.old (parts.items ++ sounds_of (map (λ p. (p.0, p.1.items)) waiting.items)) }
-        ensures laws { HeapLaws self.new }
-        ensures makes { IfOk result (λ s. Makes self.old self.new (kind_of_mix channel) timing parts.items (map waiting_of (map (λ p. (p.0, p.1.items)) waiting.items)) (parts.items ++ sounds_of (map (λ p. (p.0, p.1.items)) waiting.items)) s) }
-        ensures meaning { IfOk result (λ s. MakesMeaning self.old self.new (kind_of_mix channel) timing parts.items (map waiting_of (map (λ p. (p.0, p.1.items)) waiting.items)) s) }
-        ensures released { OnErr result (IsTrimmed (without_sounds self.old (parts.items ++ sounds_of (map (λ p. (p.0, p.1.items)) waiting.items))) self.new) }
-        ensures keeps { OnErr result (KeepsMeaning self.old self.new) }
-    {
-        waiting.destroy_empty();
-        let when = same_timing(&timing);
-        let made = make_unit(&mut self.table, alloc, mix_task(channel, Vec::new(alloc)), parts, timing)?;
+        let made = make_unit(&mut self.table, &mut self.branches, alloc, Task::Made(make), inputs, timing)?;
         Ok(begin(made, when))
     }
 
@@ -358,6 +326,48 @@ impl<B> Heap<B> {
                 let count = read_next(&mut self.table, &mut c, s.timing.len, out);
                 s.reader = Some(c);
                 count
+            }
+        }
+    }
+}
+
+impl<B: Drop> Heap<B> {
+    /// A unit that mixes these parts, heard as `timing` says, and a sound that reads it. Where it has
+    /// no sample there is no unit. A channel is a mix of one part. Those in `waiting` are parts that
+    /// follow in turn: what each is evaluated from later, and the sounds that it keeps for that, at
+    /// their beginnings. The sounds in `parts` and in `waiting` are spent.
+    ///
+    /// # Errors
+    /// `AllocError` where memory is missing. The sounds in `parts` and in `waiting` are spent
+    /// nevertheless.
+    pub fn make_mix(
+        &mut self,
+        alloc: Global,
+        parts: Vec<Sound>,
+        waiting: Vec<(B, Vec<Sound>)>,
+        timing: Timing,
+        channel: bool,
+    ) -> Result<Sound, AllocError>
+        requires mix { IsMixOf parts.items timing }
+        requires channel { IsTrue channel → (length parts.items ≡ 1) × (length waiting.items ≡ 0) }
+        requires inputs { AreHeld self.old (parts.items ++ sounds_of (map (λ p. (p.0, p.1.items)) waiting.items)) }
+        ensures laws { HeapLaws self.new }
+        ensures makes { IfOk result (λ s. Makes self.old self.new (kind_of_mix channel) timing parts.items (map waiting_of (map (λ p. (p.0, p.1.items)) waiting.items)) (parts.items ++ sounds_of (map (λ p. (p.0, p.1.items)) waiting.items)) s) }
+        ensures meaning { IfOk result (λ s. MakesMeaning self.old self.new (kind_of_mix channel) timing parts.items (map waiting_of (map (λ p. (p.0, p.1.items)) waiting.items)) s) }
+        ensures released { OnErr result (IsTrimmed (without_sounds self.old (parts.items ++ sounds_of (map (λ p. (p.0, p.1.items)) waiting.items))) self.new) }
+        ensures keeps { OnErr result (KeepsMeaning self.old self.new) }
+    {
+        let when = same_timing(&timing);
+        match split(alloc, waiting) {
+            Err(waiting) => {
+                drop_parts(&mut self.table, parts, waiting);
+                Err(AllocError)
+            }
+            Ok(halves) => {
+                let task = mix_task(channel, halves.kept);
+                let made = make_unit(&mut self.table, &mut self.branches, alloc, task, parts, timing)?;
+                place_branches(&mut self.branches, &made, halves.branches);
+                Ok(begin(made, when))
             }
         }
     }

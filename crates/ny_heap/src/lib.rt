@@ -6,9 +6,11 @@
 #![tactic(auto)]
 
 mod adding;
+mod attaching;
 mod filling;
 mod heap;
 mod make;
+mod mixing;
 mod reading;
 mod removal;
 mod settling;

@@ -16,7 +16,7 @@ pub(crate) struct Unit {
     pub(crate) inputs: Vec<Timing>,
     pub(crate) list: List,
     /// How many parts were handed out and are still to be attached.
-    pub(crate) pending: u32,
+    pub(crate) pending: usize,
 }
 
 /// The units, each by the number of its list, and the lists.

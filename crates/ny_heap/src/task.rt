@@ -150,8 +150,8 @@ fn begin_filter(
     }
 }
 
-// A sound as a part of a mix: as far as it is heard.
-fn attach_sound(mix: &mut Mix<Vec<Sound>>, sound: Sound)
+/// A sound as a part of a mix: as far as it is heard.
+pub(crate) fn attach_sound(mix: &mut Mix<Vec<Sound>>, sound: Sound)
     requires room { length mix.old.parts + length mix.old.waiting < mix.old.room }
     ensures { mix.new ≡ record mix.old { parts = mix.old.parts ++ part_of sound ∷ [] } }
 {

@@ -119,6 +119,16 @@ impl Work {
         }
     }
 
+    /// How many parts wait.
+    pub(crate) fn waiting(&self) -> usize
+        ensures { result ≡ length (waits_in self.now) }
+    {
+        match self {
+            Work::Mix(mix) => mix.waiting(),
+            _ => 0,
+        }
+    }
+
     /// Takes out what the first part that waits keeps; none exactly where no part waits.
     pub(crate) fn next_waiting(&mut self) -> Option<Vec<Sound>>
         ensures first { MatchOption result (waits_in self.old ≡ []) (λ kept. waits_in self.old ≡ kept.items ∷ waits_in self.new) }

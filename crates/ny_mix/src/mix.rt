@@ -97,6 +97,13 @@ impl<B> Mix<B> {
         self.waiting.pop_front()
     }
 
+    /// How many parts wait.
+    pub fn waiting(&self) -> usize
+        ensures { result ≡ length self.now.waiting }
+    {
+        self.waiting.len()
+    }
+
     /// How many parts it has, without those that wait.
     pub fn parts(&self) -> u32
         ensures { result ≡ length self.now.parts }
