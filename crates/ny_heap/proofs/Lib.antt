@@ -51,3 +51,6 @@ pub mod ForgetLemmas
 pub mod StopLemmas
 pub mod HandOutLemmas
 pub mod AttachLemmas
+pub mod HandedLemmas
+pub mod AttachedLemmas
+pub mod DueLemmas
