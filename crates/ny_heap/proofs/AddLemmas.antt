@@ -22,19 +22,20 @@ use Rattle.ny_heap.specs.declared.table.Table.{Table}
 use Rattle.ny_heap.specs.declared.task.Task.{Task}
 use Rattle.ny_heap.specs.declared.work.Work.{Work}
 use Rattle.ny_heap.specs.Steps.{first_memory}
-use Rattle.ny_heap.specs.Work.{kind_of, inputs_in, source_at, cursor_at, memory_in, waits_in, flat, kept_in, cursors_of_sounds, HasPlaces, HasGiven}
+use Rattle.ny_heap.specs.Work.{kind_of, inputs_in, source_at, cursor_at, memory_in, waits_in, flat, kept_in, HasPlaces, HasGiven}
 use Rattle.ny_units.specs.declared.input.Source.{Source}
 use Rattle.ny_heap.specs.declared.task.Task.TheVariants.{Made as MadeTask, Mix as MixTask, Channel as ChannelTask}
 use Rattle.ny_heap.specs.Tasks.{IsTask, IsOver, ReadsSound, BeginsWork, waits_of_task, input_of_sound, HasSides, BeginsAt, BringsFrom, Hears}
 use Rattle.ny_heap.specs.Making.{HasRoom, Places, Adds, ShowFirst}
 use Rattle.ny_heap.specs.Heap.{Kind, blocks_of, taken_after}
 use Rattle.ny_heap.specs.Table.{unit_at, timing_at, own_in, own_of, held_in, len_of, mark_in, stands_at, rest_of, ShowsFirst, IsTable, IsUnit, IsInput, IsKept, IsRead}
-use Rattle.ny_heap.specs.View.{filled_in, IsClean, IsAtNeed, IsExhausted, WaitsForNothing, IsHeap}
+use Rattle.ny_heap.specs.View.{filled_in, IsClean, IsAtNeed, IsExhausted, WaitsForNothing, IsHeap, last_stop_in, IsTimely}
 use Rattle.ny_heap.proofs.ListLemmas.{list_here, list_other, len_is}
 use Rattle.ny_heap.proofs.RestLemmas.{inputs_rest}
-use Rattle.ny_heap.proofs.KeepLemmas.{some_term, unit_uses, HoldsCursor, kept_at, get_behind, IsKept-to}
+use Rattle.ny_heap.proofs.KeepLemmas.{some_term, unit_uses, HoldsCursor, kept_at, get_behind, IsKept-to, still_timely}
 use Rattle.ny_heap.proofs.CountLemmas.{some_is, is_some_of, holds_list, holds_lower, held_append}
 use Rattle.ny_heap.proofs.SpentLemmas.{cursors_in}
+use Rattle.ny_num.specs.Grid.{index_at}
 
 -- ---- the table once a list was begun and its unit was put in its place
 
@@ -499,12 +500,23 @@ module _ (old new : Table) (n : ℕ) (x : UnitData) (sounds : List Sound) (waits
       | inr e ↦ nothing v y e.1 (subst (λ (k : ℕ × ℕ). blocks_of k.0 y.timing.len ≤ k.1) (λ q. (a.block q, filled_else v e.0 q)) past)
     ]
 
-    pub IsHeap-added : IsHeap old → IsHeap new
-    IsHeap-added heap = record {
+    timely_added : (0 < length waits → x.timing.start ≤ index_at (last_stop_in 0 x.inputs.items) x.timing.rate) → IsTimely old → IsTimely new
+    timely_added begun timely v y at owes = elim (unit_back v y at) [
+      | inl e ↦
+          let some : 0 < length waits = omega (arith, owes, ap (λ (z : UnitData). length (waits_in z.work)) e.1, ap (λ (z : UnitData). z.pending) e.1, ap length a.waits, a.pending) in
+          let none : x.timing.start + 0 * new.block ≤ index_at (last_stop_in 0 x.inputs.items) x.timing.rate = omega (arith, begun some) in
+          subst (λ (p : ℕ × UnitData). p.1.timing.start + filled_in new.store p.0 * new.block ≤ index_at (last_stop_in 0 p.1.inputs.items) p.1.timing.rate) (λ q. (sym e.0 q, sym e.1 q))
+          (still_timely x.timing.start 0 (filled_in new.store n) new.block new.block _ filled_new refl none)
+      | inr e ↦ still_timely y.timing.start (filled_in old.store v) (filled_in new.store v) old.block new.block _ (filled_else v e.0) a.block (timely v y e.1 owes)
+    ]
+
+    pub IsHeap-added : (0 < length waits → x.timing.start ≤ index_at (last_stop_in 0 x.inputs.items) x.timing.rate) → IsHeap old → IsHeap new
+    IsHeap-added begun heap = record {
       table = IsTable-added;
       read = read_added heap.read;
       clean = clean_added heap.clean;
       needs = needs_added heap.needs;
       exhausted = exhausted_added heap.exhausted;
       waits = waits_added heap.waits;
+      timely = timely_added begun heap.timely;
     }

@@ -9,7 +9,7 @@ use Rattle.ny_num.specs.declared.timing.Timing.{Timing}
 use Rattle.ny_list.specs.Store.{ListState, CursorState, list_at}
 use Rattle.ny_list.specs.Laws.{StoreLaws}
 use Rattle.ny_list.proofs.IndexLemmas.{same_some, none_some, tab_push}
-use Rattle.ny_units.specs.Inputs.{reader_of, start_of}
+use Rattle.ny_units.specs.Inputs.{reader_of, start_of, IsReader}
 use Rattle.ny_units.specs.declared.input.Source.TheVariants.{Reader as ListSource}
 use Rattle.ny_mix.specs.declared.part.Part.{Part}
 use Rattle.ny_mix.specs.Mixes.{no_part}
@@ -18,14 +18,16 @@ use Rattle.ny_heap.specs.declared.table.Unit.{Unit as UnitData}
 use Rattle.ny_heap.specs.declared.table.Table.{Table}
 use Rattle.ny_heap.specs.declared.work.Work.{Work}
 use Rattle.ny_heap.specs.declared.work.Work.TheVariants.{Leaf as LeafWork, Pair as PairWork, Abs as AbsWork, Resample as ResampleWork, Filter as FilterWork, Mix as MixWork, Channel as ChannelWork}
-use Rattle.ny_heap.specs.Heap.{Reader, is_reader}
+use Rattle.ny_num.specs.Grid.{index_at}
+use Rattle.ny_heap.specs.Heap.{Kind, Mix, Reader, is_reader, blocks_of, taken_after}
 use Rattle.ny_heap.specs.Work.{kind_of, inputs_in, source_at, cursor_at, memory_in, waits_in, flat, kept_in, cursors_of_sounds, HasPlaces, HasGiven}
 use Rattle.ny_heap.specs.Tasks.{part_of, HasSides, BeginsAt, BringsFrom, Hears}
 use Rattle.ny_heap.specs.Table.{unit_at, timing_at, input_of, readers_of, own_in, own_of, held_in, mark_in, len_of, stands_at, ShowsFirst, IsTable, IsUnit, IsInput, IsKept, IsRead}
+use Rattle.ny_heap.specs.View.{filled_in, last_stop_in, IsHeap}
 use Rattle.ny_heap.specs.Attaching.{with_part_in, GetsPart}
 use Rattle.ny_heap.proofs.TableLemmas.{place_within}
 use Rattle.ny_heap.proofs.ListLemmas.{len_is}
-use Rattle.ny_heap.proofs.KeepLemmas.{HoldsCursor, IsKept-to}
+use Rattle.ny_heap.proofs.KeepLemmas.{HoldsCursor, IsKept-to, still_timely}
 use Rattle.ny_heap.proofs.RestLemmas.{same_mark}
 use Rattle.ny_heap.proofs.CountLemmas.{some_is, is_some_of, held_cons}
 use Rattle.ny_heap.proofs.AddLemmas.{reads_as}
@@ -76,6 +78,31 @@ stands_seen block len v j n (Some c) = refl
 reads_some : (n : ℕ) (o : Option CursorState) (c : CursorState) → option_map (λ (d : CursorState). record d { visible = n }) o ≡ Some c → (d : CursorState) × (o ≡ Some d) × (c ≡ record d { visible = n })
 reads_some n None c is = absurd (none_some is)
 reads_some n (Some d) c is = (d, refl, sym (same_some is))
+
+-- a sound without a cursor has none to read
+unread : (n : ℕ) (o : Option CursorState) → option_map (λ (d : CursorState). record d { visible = n }) o ≡ None → o ≡ None
+unread n None is = refl
+unread n (Some d) is = absurd (none_some (sym is))
+
+-- only a mix is promised parts
+mix_of : (w : Work) (owed : ℕ) → HasPlaces w owed → 0 < owed → kind_of w ≡ Mix
+mix_of (LeafWork p) owed places some = absurd (omega (arith, places, some))
+mix_of (PairWork p a b) owed places some = absurd (omega (arith, places, some))
+mix_of (AbsWork a) owed places some = absurd (omega (arith, places, some))
+mix_of (ResampleWork r) owed places some = absurd (omega (arith, places, some))
+mix_of (FilterWork f start) owed places some = absurd (omega (arith, places, some))
+mix_of (MixWork m) owed places some = refl
+mix_of (ChannelWork p) owed places some = absurd (omega (arith, places, some))
+
+-- a mix has taken nothing of what begins no earlier than where it is filled
+taken_later : (block : ℕ) (t input : Timing) (n : ℕ) → t.start + n * block ≤ input.start → taken_after block Mix t input n ≡ 0
+unfolding taken_after
+taken_later block t input zero before = refl
+taken_later block t input (suc n) before = omega (arith, before)
+
+last_pushed : (ts : List Timing) (t : Timing) (stop : ℕ) → last_stop_in stop (ts ++ t ∷ []) ≡ t.stop
+last_pushed [] t stop = refl
+last_pushed (k ∷ ks) t stop = last_pushed ks t k.stop
 
 -- ---- the unit
 
@@ -312,3 +339,109 @@ module _ (t new : Table) (u : ℕ) (s : Sound) (table : IsTable t (s.reader ∷ 
 
     pub IsRead-attached : IsRead t → IsRead new
     IsRead-attached read w l is = read w l (sym (list_same w) ∙ is)
+
+    -- ---- between two calls
+
+    -- the unit is filled no further than to where the sound begins, and all that reads it now read no more than is there
+    module _ (heap : IsHeap t) (begins : g.unit.timing.start + filled_in t.store u * t.block ≤ s.timing.start) (none : s.reader ≡ None → s.timing.len ≡ 0) (stop : index_at (last_stop_in 0 g.unit.inputs.items) g.unit.timing.rate ≤ index_at s.timing.stop g.unit.timing.rate) where
+      filled_same : (w : ℕ) → filled_in new.store w ≡ filled_in t.store w
+      filled_same w = ap (λ r. filled_in r w) g.store
+
+      -- it has a block left to fill
+      open_still : filled_in t.store u < blocks_of t.block x.timing.len
+      open_still = elim (cases_lt (filled_in t.store u) (blocks_of t.block x.timing.len)) [
+        | inl less ↦ less
+        | inr full ↦ absurd (omega (arith, promised, (heap.waits u x g.was full).1))
+      ]
+
+      open_now : filled_in new.store u < blocks_of new.block x.timing.len
+      open_now = subst (λ (k : ℕ × ℕ). k.0 < blocks_of k.1 x.timing.len) (λ j. (sym (filled_same u) j, sym g.block j)) open_still
+
+      -- it has taken nothing of what begins no earlier than where it is filled
+      taken_nothing : (kind : Kind) → kind ≡ Mix → (input : Timing) → x.timing.start + filled_in t.store u * t.block ≤ input.start → taken_after t.block kind x.timing input (filled_in t.store u) ≡ 0
+      taken_nothing kind mix input before = ap (λ k. taken_after t.block k x.timing input (filled_in t.store u)) mix ∙ taken_later t.block x.timing input (filled_in t.store u) before
+
+      is_mix : kind_of x.work ≡ Mix
+      is_mix = mix_of x.work x.pending list_u.2.places promised
+
+      taken_last : taken_after new.block (kind_of unit_now.work) x.timing (timing_at unit_now had) (filled_in new.store u) ≡ 0
+      taken_last =
+          (λ j. taken_after (g.block j) (more.kind j) x.timing (timing_last j) (filled_same u j)) ∙ taken_nothing (kind_of x.work) is_mix s.timing begins
+
+      taken_before : (k : ℕ) → k < had → taken_after t.block (kind_of x.work) x.timing (timing_at x k) (filled_in t.store u) ≡ taken_after new.block (kind_of unit_now.work) x.timing (timing_at unit_now k) (filled_in new.store u)
+      taken_before k inside = λ j. taken_after (sym g.block j) (sym more.kind j) x.timing (sym (timing_before k inside) j) (sym (filled_same u) j)
+
+      -- an input of the unit is one of before, or the last
+      which : (k : ℕ) → k < length unit_now.inputs.items → (k < had) ⊎ (had ≡ k)
+      which k inside = elim (cases_lt k had) [
+        | inl before ↦ inl before
+        | inr past ↦ inr (omega (arith, inside, past, long))
+      ]
+
+      clean_mine : (k : ℕ) (c : CursorState) → k < length unit_now.inputs.items → cursor_at unit_now.work k ≡ Some c → (c.place < c.visible) × (filled_in new.store u < blocks_of new.block unit_now.timing.len)
+      clean_mine k c inside is = elim (which k inside) [
+        | inl before ↦ ((heap.clean u k x c g.was before (sym (cursor_before k before) ∙ is)).0, open_now)
+        | inr e ↦ let a = input_last c (ap (λ i. cursor_at unit_now.work i) e ∙ is) in (omega (arith, a.4, a.5), open_now)
+      ]
+
+      needs_mine : (k : ℕ) (c : CursorState) → k < length unit_now.inputs.items → cursor_at unit_now.work k ≡ Some c → c.place ≡ taken_after new.block (kind_of unit_now.work) x.timing (timing_at unit_now k) (filled_in new.store u)
+      needs_mine k c inside is = elim (which k inside) [
+        | inl before ↦ heap.needs u k x c g.was before (sym (cursor_before k before) ∙ is) ∙ taken_before k before
+        | inr e ↦
+            let a = input_last c (ap (λ i. cursor_at unit_now.work i) e ∙ is) in
+            a.4 ∙ sym taken_last ∙ ap (λ i. taken_after new.block (kind_of unit_now.work) x.timing (timing_at unit_now i) (filled_in new.store u)) e
+      ]
+
+      exhausted_mine : (k : ℕ) → k < length unit_now.inputs.items → IsReader (source_at unit_now.work k) → cursor_at unit_now.work k ≡ None → (timing_at unit_now k).len ≤ taken_after new.block (kind_of unit_now.work) x.timing (timing_at unit_now k) (filled_in new.store u)
+      exhausted_mine k inside reader is = elim (which k inside) [
+        | inl before ↦
+            let source = subst IsReader (more.before k (omega (arith, before, had_is))) reader in
+            let far = heap.exhausted u k x g.was before source (sym (cursor_before k before) ∙ is) open_still in
+            subst (λ n. (timing_at unit_now k).len ≤ n) (taken_before k before) (subst (λ (q : Timing). q.len ≤ taken_after t.block (kind_of x.work) x.timing (timing_at x k) (filled_in t.store u)) (sym (timing_before k before)) far)
+        | inr e ↦
+            let empty : s.timing.len ≡ 0 = none (unread s.timing.len s.reader (sym cursor_last ∙ ap (λ i. cursor_at unit_now.work i) e ∙ is)) in
+            omega (arith, empty, ap (λ (q : Timing). q.len) timing_last, ap (λ i. (timing_at unit_now i).len) e)
+      ]
+
+      stop_now : last_stop_in 0 unit_now.inputs.items ≡ s.timing.stop
+      stop_now = ap (last_stop_in 0) g.inputs ∙ last_pushed x.inputs.items s.timing 0
+
+      timely_mine : x.timing.start + filled_in new.store u * new.block ≤ index_at (last_stop_in 0 unit_now.inputs.items) x.timing.rate
+      timely_mine =
+          still_timely x.timing.start (filled_in t.store u) (filled_in new.store u) t.block new.block _ (filled_same u) g.block
+          (subst (λ n. x.timing.start + filled_in t.store u * t.block ≤ index_at n x.timing.rate) (sym stop_now) (omega (arith, stop, heap.timely u x g.was (omega (arith, promised)))))
+
+      pub IsHeap-attached : IsHeap new
+      IsHeap-attached = record {
+        table = IsTable-attached;
+        read = IsRead-attached heap.read;
+        clean = λ w i z c is inside cursor. elim (unit_back w z is) [
+          | inl e ↦
+              subst (λ (p : ℕ × UnitData). (c.place < c.visible) × (filled_in new.store p.0 < blocks_of new.block p.1.timing.len)) (λ q. (sym e.0 q, sym e.1 q))
+              (clean_mine i c (subst (λ (q : UnitData). i < length q.inputs.items) e.1 inside) (ap (λ (q : UnitData). cursor_at q.work i) (sym e.1) ∙ cursor))
+          | inr e ↦ let h = heap.clean w i z c e.1 inside cursor in (h.0, subst (λ (k : ℕ × ℕ). k.0 < blocks_of k.1 z.timing.len) (λ j. (sym (filled_same w) j, sym g.block j)) h.1)
+        ];
+        needs = λ w i z c is inside cursor. elim (unit_back w z is) [
+          | inl e ↦
+              needs_mine i c (subst (λ (q : UnitData). i < length q.inputs.items) e.1 inside) (ap (λ (q : UnitData). cursor_at q.work i) (sym e.1) ∙ cursor)
+              ∙ (λ j. taken_after new.block (kind_of (sym e.1 j).work) (sym e.1 j).timing (timing_at (sym e.1 j) i) (filled_in new.store (sym e.0 j)))
+          | inr e ↦ heap.needs w i z c e.1 inside cursor ∙ (λ j. taken_after (sym g.block j) (kind_of z.work) z.timing (timing_at z i) (sym (filled_same w) j))
+        ];
+        exhausted = λ w i z is inside reader empty still. elim (unit_back w z is) [
+          | inl e ↦
+              subst (λ (p : ℕ × UnitData). (timing_at p.1 i).len ≤ taken_after new.block (kind_of p.1.work) p.1.timing (timing_at p.1 i) (filled_in new.store p.0)) (λ q. (sym e.0 q, sym e.1 q))
+              (exhausted_mine i (subst (λ (q : UnitData). i < length q.inputs.items) e.1 inside) (subst (λ (q : UnitData). IsReader (source_at q.work i)) e.1 reader) (ap (λ (q : UnitData). cursor_at q.work i) (sym e.1) ∙ empty))
+          | inr e ↦
+              subst (λ n. (timing_at z i).len ≤ n) (λ j. taken_after (sym g.block j) (kind_of z.work) z.timing (timing_at z i) (sym (filled_same w) j))
+              (heap.exhausted w i z e.1 inside reader empty (subst (λ (k : ℕ × ℕ). k.0 < blocks_of k.1 z.timing.len) (λ j. (filled_same w j, g.block j)) still))
+        ];
+        waits = λ w z is full. elim (unit_back w z is) [
+          | inl e ↦ absurd (omega (arith, open_now, subst (λ (p : ℕ × UnitData). blocks_of new.block p.1.timing.len ≤ filled_in new.store p.0) (λ q. (e.0 q, e.1 q)) full))
+          | inr e ↦ heap.waits w z e.1 (subst (λ (k : ℕ × ℕ). blocks_of k.1 z.timing.len ≤ k.0) (λ j. (filled_same w j, g.block j)) full)
+        ];
+        timely = λ w z is owes. elim (unit_back w z is) [
+          | inl e ↦
+              subst (λ (p : ℕ × UnitData). p.1.timing.start + filled_in new.store p.0 * new.block ≤ index_at (last_stop_in 0 p.1.inputs.items) p.1.timing.rate) (λ q. (sym e.0 q, sym e.1 q)) timely_mine
+          | inr e ↦ still_timely z.timing.start (filled_in t.store w) (filled_in new.store w) t.block new.block _ (filled_same w) g.block (heap.timely w z e.1 owes)
+        ];
+      }

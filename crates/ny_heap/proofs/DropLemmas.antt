@@ -14,9 +14,8 @@ use Rattle.ny_heap.specs.declared.table.Unit.{Unit as UnitData}
 use Rattle.ny_heap.specs.declared.table.Table.{Table}
 use Rattle.ny_heap.specs.declared.work.Work.{Work}
 use Rattle.ny_heap.specs.Heap.{stands_in}
-use Rattle.ny_heap.specs.declared.sound.Sound.{Sound}
 use Rattle.ny_heap.specs.Work.{cursor_at, inputs_in, without_cursor_at, kept_in, cursors_of_sounds}
-use Rattle.ny_heap.specs.Table.{unit_at, own_in, own_of, held_in, mark_in, len_of, stands_at, rest_of, IsTable, IsUnit, IsInput, IsKept, IsRead, Drops, Removes, IsThere, present}
+use Rattle.ny_heap.specs.Table.{unit_at, own_in, own_of, held_in, mark_in, len_of, stands_at, rest_of, IsTable, IsUnit, IsInput, IsRead, Drops, Removes, IsThere, present}
 use Rattle.ny_heap.proofs.TableLemmas.{place_within}
 use Rattle.ny_heap.proofs.ListLemmas.{Relists, len_kept, mark_is, len_is, list_within, list_here, list_other, KeepsList-same, KeepsList-then}
 use Rattle.ny_heap.proofs.RestLemmas.{own_rest, rest_more, rest_done, rest_without, same_count}

@@ -1,5 +1,5 @@
 -- What holds once a unit has filled a block.
-use Rattle.std.proofs.Common.{◌≡◌, ◌≢◌, inl, inr, ℕ, ◌+◌, ◌<◌, ◌≤◌, ◌&&◌, nat_lt, cond, Bool, true, false, List, [], length, Option, None, Some, refl, sym, ap, subst, ◌∙◌, arith, ℤ}
+use Rattle.std.proofs.Common.{◌≡◌, ◌≢◌, inl, inr, ℕ, ◌+◌, ◌<◌, ◌≤◌, ◌&&◌, nat_lt, cond, Bool, true, false, List, [], length, Option, None, Some, refl, sym, ap, subst, ◌∙◌, arith, ℤ, ◌*◌}
 use Rattle.std.specs.Option.{option_map}
 use Rattle.std.proofs.lemmas.Bool.{cases_eq, cases_lt, lt-ltb, le-ltb, ltb-true, and_parts}
 use Rattle.ny_num.specs.declared.timing.Timing.{Timing}
@@ -11,12 +11,14 @@ use Rattle.ny_heap.specs.declared.table.Table.{Table}
 use Rattle.ny_heap.specs.Heap.{Reader, blocks_of, taken_after}
 use Rattle.ny_heap.specs.Work.{kind_of, inputs_in, source_at, cursor_at, memory_in, waits_in}
 use Rattle.ny_heap.specs.Table.{unit_at, timing_at, input_of}
-use Rattle.ny_heap.specs.View.{filled_in, outside_in, HaveBranches, IsHeap}
+use Rattle.ny_heap.specs.View.{filled_in, outside_in, HaveBranches, IsHeap, last_stop_in}
 use Rattle.ny_heap.specs.Filling.{CanFill, Computes, Appends, Settles, FillsBlock, moved_in}
 use Rattle.ny_heap.proofs.NeedLemmas.{taken_rises}
 use Rattle.ny_heap.proofs.ViewLemmas.{filled_is}
 use Rattle.ny_heap.proofs.MovesLemmas.{same_source}
 use Rattle.ny_heap.proofs.AppendLemmas as more
+use Rattle.ny_heap.proofs.KeepLemmas.{still_timely}
+use Rattle.ny_num.specs.Grid.{index_at}
 
 -- ---- an input once it was settled
 
@@ -194,8 +196,17 @@ module _ (old new : Table) (u : ℕ) (out : List ℤ) (f : CanFill old u) (fills
       few true = have u x p.was
       few false = omega arith
 
-  pub IsHeap-fills : fills.computes.unit.pending ≡ 0 → IsHeap new
-  IsHeap-fills pending = record {
+  -- what the unit waits for it waited for
+  waited : 0 < length (waits_in fills.settles.now.work) → 0 < length (waits_in fills.computes.unit.work)
+  waited owes = by (nat_lt (filled_in old.store u + 1) (blocks_of old.block fills.computes.unit.timing.len)) (subst (λ wss. 0 < length wss) fills.waits owes)
+    where
+      by : (b : Bool) → 0 < length (cond b (waits_in fills.computes.unit.work) []) → 0 < length (waits_in fills.computes.unit.work)
+      by true some = some
+      by false none = absurd (omega (arith, none))
+
+  pub IsHeap-fills : fills.computes.unit.pending ≡ 0
+      → (0 < length (waits_in fills.computes.unit.work) → fills.computes.unit.timing.start + (filled_in old.store u + 1) * old.block ≤ index_at (last_stop_in 0 fills.computes.unit.inputs.items) fills.computes.unit.timing.rate) → IsHeap new
+  IsHeap-fills pending settled = record {
     table = fills.table;
     read = fills.read;
     clean = λ w i y c at inside is. elim (cases_eq w u) [
@@ -234,6 +245,15 @@ module _ (old new : Table) (u : ℕ) (out : List ℤ) (f : CanFill old u) (fills
           subst (λ n. blocks_of old.block x.timing.len ≤ n) filled_new (subst (λ b. blocks_of b x.timing.len ≤ filled_in new.store u) block_same (subst (λ (k : UnitData). blocks_of new.block k.timing.len ≤ filled_in new.store u) same (subst (λ v. blocks_of new.block y.timing.len ≤ filled_in new.store v) e full))) in
           (ap (λ (k : UnitData). waits_in k.work) same ∙ waits_for_nothing full_now, ap (λ (k : UnitData). k.pending) same ∙ pending)
       | inr ne ↦ f.heap.waits w y (other_was w y ne at) (subst (λ b. blocks_of b y.timing.len ≤ filled_in old.store w) block_same (subst (λ n. blocks_of new.block y.timing.len ≤ n) (other_filled w y ne at) full))
+    ];
+    timely = λ w y at owes. elim (cases_eq w u) [
+      | inl e ↦
+          let same = unit_same w y e at in
+          let some = waited (omega (arith, ap (λ (k : UnitData). length (waits_in k.work)) same, ap (λ (k : UnitData). k.pending) same, pending, owes)) in
+          let now = still_timely x.timing.start (filled_in old.store u + 1) (filled_in new.store u) old.block new.block _ filled_new block_same (settled some) in
+          subst (λ v. y.timing.start + filled_in new.store v * new.block ≤ index_at (last_stop_in 0 y.inputs.items) y.timing.rate) (sym e)
+          (subst (λ (k : UnitData). k.timing.start + filled_in new.store u * new.block ≤ index_at (last_stop_in 0 k.inputs.items) k.timing.rate) (sym same) now)
+      | inr ne ↦ still_timely y.timing.start (filled_in old.store w) (filled_in new.store w) old.block new.block _ (other_filled w y ne at) block_same (f.heap.timely w y (other_was w y ne at) owes)
     ];
   }
 

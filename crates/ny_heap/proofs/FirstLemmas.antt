@@ -1,10 +1,10 @@
 -- What a unit wants, by the table.
-use Rattle.std.proofs.Common.{◌≡◌, ◌⊎◌, inl, inr, is_some, ◌≤◌, ℕ, zero, suc, ◌+◌, ◌-◌, ◌*◌, ◌<◌, min, Bool, true, false, cond, nat_lt, List, [], ◌∷◌, length, get_or, map, Option, None, Some, IsSomeAnd, IsTrue, refl, sym, ap, ◌∙◌, arith}
-use Rattle.std.proofs.lemmas.Bool.{ne_eqb, cases_lt, true≢false}
+use Rattle.std.proofs.Common.{◌≡◌, ◌⊎◌, inl, inr, is_some, ◌≤◌, ℕ, zero, suc, ◌+◌, ◌*◌, ◌<◌, min, Bool, true, false, cond, nat_lt, List, [], length, get_or, map, Option, None, Some, IsSomeAnd, IsTrue, refl, sym, ap, ◌∙◌, arith}
+use Rattle.std.proofs.lemmas.Bool.{cases_lt, true≢false}
 use Rattle.std.specs.List.{range_with_len}
 use Rattle.std.specs.Option.{option_map, option_map_or}
 use Rattle.ny_list.specs.Store.{ListState, CursorState, list_at}
-use Rattle.ny_list.proofs.IndexLemmas.{none_some, same_some, tab_get, tab_past}
+use Rattle.ny_list.proofs.IndexLemmas.{same_some, tab_get, tab_past}
 use Rattle.ny_heap.specs.declared.table.Unit.{Unit as UnitData}
 use Rattle.ny_heap.specs.declared.table.Table.{Table}
 use Rattle.ny_heap.specs.Heap.{Reader, Node, node_at, input_at, is_open, computed_of, taken_after}

@@ -1,14 +1,14 @@
 -- What the parts of a unit that wait keep is dropped, once its last block is filled.
-use Rattle.std.proofs.Common.{◌≡◌, ◌≢◌, ◌⊎◌, inl, inr, ℕ, zero, suc, ◌+◌, ◌-◌, ◌*◌, ◌<◌, ◌≤◌, min, nat_lt, Bool, true, false, cond, List, [], ◌∷◌, ◌++◌, length, map, drop, get_or, slice_get, set, Option, None, Some, IsSome, is_some, count_by, refl, sym, ap, subst, ◌∙◌, arith, append-nil, length-set, Vec, Global}
+use Rattle.std.proofs.Common.{◌≡◌, ◌≢◌, ◌⊎◌, inl, inr, ℕ, ◌+◌, ◌*◌, ◌<◌, ◌≤◌, min, nat_lt, true, false, cond, List, [], ◌∷◌, ◌++◌, length, map, drop, get_or, slice_get, set, Option, None, Some, IsSome, is_some, count_by, refl, sym, ap, subst, ◌∙◌, arith, append-nil, length-set, Vec, Global}
 use Rattle.std.specs.List.{sum_by}
 use Rattle.std.specs.Option.{option_map, option_map_or}
 use Rattle.std.proofs.lemmas.List.{get_or-set_same, get_or-set_other, map-append, length-drop, length-map}
 use Rattle.std.proofs.lemmas.List.Sums.{sum_by-set, sum_by-append}
-use Rattle.std.proofs.lemmas.Bool.{cases_eq, ltb-true, ltb-false, lt-ltb, le-ltb}
+use Rattle.std.proofs.lemmas.Bool.{cases_eq, ltb-true, ltb-false}
 use Rattle.ny_num.specs.declared.timing.Timing.{Timing}
 use Rattle.ny_list.specs.Store.{ListState, CursorState, list_at}
 use Rattle.ny_list.specs.Laws.{StoreLaws}
-use Rattle.ny_list.proofs.IndexLemmas.{same_some, none_some, tab_same}
+use Rattle.ny_list.proofs.IndexLemmas.{same_some, tab_same}
 use Rattle.ny_units.specs.Inputs.{start_of, IsReader}
 use Rattle.ny_heap.specs.declared.sound.Sound.{Sound}
 use Rattle.ny_heap.specs.declared.table.Unit.{Unit as UnitData}
@@ -16,8 +16,8 @@ use Rattle.ny_heap.specs.declared.table.Table.{Table}
 use Rattle.ny_heap.specs.declared.work.Work.{Work}
 use Rattle.ny_heap.specs.declared.work.Work.TheVariants.{Leaf as LeafWork, Pair as PairWork, Abs as AbsWork, Resample as ResampleWork, Filter as FilterWork, Mix as MixWork, Channel as ChannelWork}
 use Rattle.ny_heap.specs.Heap.{Reader, is_reader, blocks_of}
-use Rattle.ny_heap.specs.Work.{inputs_in, source_at, cursor_at, waits_in, flat, kept_in, without_first, cursors_of_sounds, HasGiven}
-use Rattle.ny_heap.specs.Table.{unit_at, timing_at, input_of, readers_of, own_in, own_of, held_in, mark_in, len_of, stands_at, IsTable, IsUnit, IsInput, IsKept, IsRead, IsThere, KeepsList, Drops, is_open_in}
+use Rattle.ny_heap.specs.Work.{cursor_at, waits_in, flat, kept_in, without_first, HasGiven}
+use Rattle.ny_heap.specs.Table.{unit_at, timing_at, input_of, readers_of, own_in, own_of, held_in, mark_in, len_of, stands_at, IsTable, IsUnit, IsInput, IsKept, IsRead, IsThere, Drops, is_open_in}
 use Rattle.ny_heap.specs.View.{filled_in}
 use Rattle.ny_heap.specs.Filling.{Reworks, Settles, Forgetting, WaitsStill}
 use Rattle.ny_heap.proofs.TableLemmas.{place_within}
@@ -110,7 +110,7 @@ module _ (t mid : Table) (u : ℕ) (x : UnitData) (kept : List Sound) (table : I
   same_readers : readers_of unit_now ≡ readers_of x
   same_readers = tab_same (input_of unit_now) (input_of x) (length x.inputs.items) None (λ i h. ap (option_map {U = Reader} (λ c. record { node = c.list; place = c.place; timing = timing_at x i })) (cursor_first x.work i))
 
-  own_apart : (v j : ℕ) → own_in mid v j + held_in mid (cursors_in kept) v j ≡ own_in t v j
+  pub own_apart : (v j : ℕ) → own_in mid v j + held_in mid (cursors_in kept) v j ≡ own_in t v j
   own_apart v j =
       let n : ℕ = len_of t.store v in
       let f = λ (o : Option UnitData). option_map_or {U = ℕ} (own_of t.block n v j) o 0 in

@@ -13,16 +13,18 @@ use Rattle.ny_heap.specs.declared.table.Unit.{Unit as UnitData}
 use Rattle.ny_heap.specs.declared.table.Table.{Table}
 use Rattle.ny_heap.specs.declared.work.Work.{Work}
 use Rattle.ny_heap.specs.declared.work.Work.TheVariants.{Leaf as LeafWork, Pair as PairWork, Abs as AbsWork, Resample as ResampleWork, Filter as FilterWork, Mix as MixWork, Channel as ChannelWork}
-use Rattle.ny_heap.specs.Heap.{blocks_of}
+use Rattle.ny_num.specs.Grid.{index_at}
+use Rattle.ny_units.specs.Inputs.{IsReader}
+use Rattle.ny_heap.specs.Heap.{blocks_of, taken_after}
 use Rattle.ny_heap.specs.Work.{kind_of, source_at, cursor_at, waits_in, without_first, kept_in, HasPlaces, HasGiven}
-use Rattle.ny_heap.specs.Table.{unit_at, own_in, own_of, held_in, mark_in, len_of, stands_at, IsTable, IsUnit, IsInput, IsKept, IsRead}
-use Rattle.ny_heap.specs.View.{filled_in, IsClean, IsAtNeed, IsExhausted, IsHeap}
+use Rattle.ny_heap.specs.Table.{unit_at, timing_at, own_in, own_of, held_in, mark_in, len_of, stands_at, IsTable, IsUnit, IsInput, IsKept, IsRead}
+use Rattle.ny_heap.specs.View.{filled_in, last_stop_in, IsHeap}
 use Rattle.ny_heap.specs.Attaching.{TakesPart}
 use Rattle.ny_heap.proofs.TableLemmas.{place_within}
-use Rattle.ny_heap.proofs.KeepLemmas.{source_first, cursor_first, HoldsCursor, IsKept-to}
+use Rattle.ny_heap.proofs.KeepLemmas.{source_first, cursor_first, get_before, still_timely, IsKept-to}
 use Rattle.ny_heap.proofs.CountLemmas.{is_some_of, IsTable-hand}
 use Rattle.ny_heap.proofs.SpentLemmas.{cursors_in}
-use Rattle.ny_heap.proofs.ForgetLemmas.{IsTable-unkept, first_apart}
+use Rattle.ny_heap.proofs.ForgetLemmas.{IsTable-unkept, own_apart, first_apart}
 
 -- ---- another number of parts that are still to be attached
 
@@ -58,14 +60,14 @@ module _ (t new : Table) (u p : ℕ) (x : UnitData) (cs : List (Option CursorSta
         (z, was, refl, l.2.places, l.2.timings)
   ]
 
-  own_same : (v j : ℕ) → own_in new v j ≡ own_in t v j
+  pub own_same : (v j : ℕ) → own_in new v j ≡ own_in t v j
   own_same v j =
       let f = λ (o : Option UnitData). option_map_or {U = ℕ} (own_of t.block (len_of t.store v) v j) o 0 in
       ap (λ b. sum_by (λ (o : Option UnitData). option_map_or {U = ℕ} (own_of b (len_of new.store v) v j) o 0) new.units.items) block
       ∙ ap (λ s. sum_by (λ (o : Option UnitData). option_map_or {U = ℕ} (own_of t.block (len_of s v) v j) o 0) new.units.items) store
       ∙ ap (sum_by f) units ∙ sum_kept f t.units.items u (Some unit_now) None (place_within t.units.items u x at) (sym (ap f at))
 
-  held_same : (v j : ℕ) → held_in new cs v j ≡ held_in t cs v j
+  pub held_same : (v j : ℕ) → held_in new cs v j ≡ held_in t cs v j
   held_same v j = ap (λ b. sum_by (stands_at b (len_of new.store v) v j) cs) block ∙ ap (λ s. sum_by (stands_at t.block (len_of s v) v j) cs) store
 
   pub IsTable-counted : IsTable new cs
@@ -130,6 +132,15 @@ places_handed (MixWork m) kept n is places =
     omega (arith, places, ap length is, Rattle.std.proofs.lemmas.List.length-map m.waiting (λ v. v.items), Rattle.std.proofs.lemmas.List.length-drop 1 m.waiting)
 places_handed (ChannelWork p) kept n is places = absurd (omega (arith, ap length is))
 
+kind_first : (w : Work) → kind_of (without_first w) ≡ kind_of w
+kind_first (LeafWork p) = refl
+kind_first (PairWork p a b) = refl
+kind_first (AbsWork s) = refl
+kind_first (ResampleWork r) = refl
+kind_first (FilterWork f start) = refl
+kind_first (MixWork m) = refl
+kind_first (ChannelWork p) = refl
+
 module _ (old new : Table) (u : ℕ) (kept : List Sound) (table : IsTable old []) (p : TakesPart old new u kept) where
   abbrev x : UnitData
   x = p.unit
@@ -147,12 +158,43 @@ module _ (old new : Table) (u : ℕ) (kept : List Sound) (table : IsTable old []
   unit_old : (l : ListState) × (list_at old.store u ≡ Some l) × IsUnit old u x l
   unit_old = table.units u x p.was
 
+  abbrev unit_mid : UnitData
+  unit_mid = record x { work = without_first x.work }
+
+  mid_here : unit_at mid u ≡ Some unit_mid
+  mid_here = get_or-set_same old.units.items u (Some unit_mid) None (place_within old.units.items u x p.was)
+
+  places_now : HasPlaces unit_mid.work (x.pending + 1)
+  places_now = places_handed x.work kept x.pending p.first unit_old.2.places
+
+  timings_now : length unit_mid.inputs.items + length (waits_in unit_mid.work) + (x.pending + 1) ≤ vec_capacity unit_mid.inputs
+  timings_now = omega (arith, unit_old.2.timings, ap length p.first)
+
+  units_now : new.units.items ≡ set mid.units.items u (Some (record unit_mid { pending = x.pending + 1 }))
+  units_now = p.units ∙ sym (set-set old.units.items u (Some unit_mid) (Some (record unit_mid { pending = x.pending + 1 })))
+
   pub IsTable-handed : IsTable new []
-  IsTable-handed =
-      IsTable-counted mid new u (x.pending + 1) (record x { work = without_first x.work }) [] mid_none
-      (get_or-set_same old.units.items u (Some (record x { work = without_first x.work })) None (place_within old.units.items u x p.was))
-      (places_handed x.work kept x.pending p.first unit_old.2.places) (omega (arith, unit_old.2.timings, ap length p.first))
-      (p.units ∙ sym (set-set old.units.items u (Some (record x { work = without_first x.work })) (Some (record x { work = without_first x.work; pending = x.pending + 1 })))) p.store p.block
+  IsTable-handed = IsTable-counted mid new u (x.pending + 1) unit_mid [] mid_none mid_here places_now timings_now units_now p.store p.block
+
+  -- so it is with what the part kept in hand
+  pub IsTable-handing : IsTable new (cursors_in kept)
+  IsTable-handing = IsTable-counted mid new u (x.pending + 1) unit_mid (cursors_in kept) mid_table mid_here places_now timings_now units_now p.store p.block
+
+  -- what all had is what they have and what is in hand
+  pub own_handed : (v j : ℕ) → own_in new v j + held_in new (cursors_in kept) v j ≡ own_in old v j
+  own_handed v j =
+      omega (
+        arith,
+        own_same mid new u (x.pending + 1) unit_mid (cursors_in kept) mid_table mid_here places_now timings_now units_now p.store p.block v j,
+        held_same mid new u (x.pending + 1) unit_mid (cursors_in kept) mid_table mid_here places_now timings_now units_now p.store p.block v j,
+        own_apart old mid u x kept table p.was (first_apart x.work kept p.first) (record { units = refl; store = refl; block = refl }) v j,
+      )
+
+  -- each sound that the part kept is as it was
+  pub handed_kept : (i : ℕ) (s : Sound) → slice_get kept i ≡ Some s → IsKept new s
+  handed_kept i s is =
+      IsKept-to old new s (λ c reads there. (subst (λ o. IsSome o) (ap (λ r. list_at r c.list) (sym p.store)) there, ap (λ r. len_of r c.list) p.store))
+      (table.kept u i x s p.was (ap (λ ss. slice_get ss i) (first_apart x.work kept p.first) ∙ get_before kept (kept_in (without_first x.work)) i s is))
 
   -- ---- between two calls
 
@@ -167,3 +209,55 @@ module _ (old new : Table) (u : ℕ) (kept : List Sound) (table : IsTable old []
     | inl e ↦ inl (e, same_some (sym is ∙ ap (unit_at new) e ∙ handed_here))
     | inr ne ↦ inr (ne, sym (handed_else w ne) ∙ is)
   ]
+
+  filled_same : (w : ℕ) → filled_in new.store w ≡ filled_in old.store w
+  filled_same w = ap (λ r. filled_in r w) p.store
+
+  abbrev y : UnitData
+  y = record x { work = without_first x.work; pending = x.pending + 1 }
+
+  same_kind : kind_of (without_first x.work) ≡ kind_of x.work
+  same_kind = kind_first x.work
+
+  pub IsHeap-handed : IsHeap old → IsHeap new
+  IsHeap-handed heap = record {
+    table = IsTable-handed;
+    read = λ w l is. heap.read w l (ap (λ r. list_at r w) (sym p.store) ∙ is);
+    clean = λ w i z c is inside cursor. elim (handed_back w z is) [
+      | inl e ↦
+          let h = heap.clean u i x c p.was (subst (λ (q : UnitData). i < length q.inputs.items) e.1 inside) (sym (cursor_first x.work i) ∙ ap (λ (q : UnitData). cursor_at q.work i) (sym e.1) ∙ cursor) in
+          (h.0, subst (λ (k : ℕ × UnitData). filled_in new.store k.0 < blocks_of new.block k.1.timing.len) (λ j. (sym e.0 j, sym e.1 j)) (subst (λ (k : ℕ × ℕ). k.0 < blocks_of k.1 x.timing.len) (λ j. (sym (filled_same u) j, sym p.block j)) h.1))
+      | inr e ↦ let h = heap.clean w i z c e.1 inside cursor in (h.0, subst (λ (k : ℕ × ℕ). k.0 < blocks_of k.1 z.timing.len) (λ j. (sym (filled_same w) j, sym p.block j)) h.1)
+    ];
+    needs = λ w i z c is inside cursor. elim (handed_back w z is) [
+      | inl e ↦
+          heap.needs u i x c p.was (subst (λ (q : UnitData). i < length q.inputs.items) e.1 inside) (sym (cursor_first x.work i) ∙ ap (λ (q : UnitData). cursor_at q.work i) (sym e.1) ∙ cursor)
+          ∙ (λ j. taken_after (sym p.block j) (sym same_kind j) x.timing (timing_at x i) (sym (filled_same u) j))
+          ∙ (λ j. taken_after new.block (kind_of (sym e.1 j).work) (sym e.1 j).timing (timing_at (sym e.1 j) i) (filled_in new.store (sym e.0 j)))
+      | inr e ↦ heap.needs w i z c e.1 inside cursor ∙ (λ j. taken_after (sym p.block j) (kind_of z.work) z.timing (timing_at z i) (sym (filled_same w) j))
+    ];
+    exhausted = λ w i z is inside reader none still. elim (handed_back w z is) [
+      | inl e ↦
+          let opened = subst (λ (k : ℕ × ℕ). k.0 < blocks_of k.1 x.timing.len) (λ j. (filled_same u j, p.block j)) (subst (λ (k : ℕ × UnitData). filled_in new.store k.0 < blocks_of new.block k.1.timing.len) (λ j. (e.0 j, e.1 j)) still) in
+          let far = heap.exhausted u i x p.was (subst (λ (q : UnitData). i < length q.inputs.items) e.1 inside) (subst IsReader (source_first x.work i) (subst (λ (q : UnitData). IsReader (source_at q.work i)) e.1 reader))
+          (sym (cursor_first x.work i) ∙ ap (λ (q : UnitData). cursor_at q.work i) (sym e.1) ∙ none) opened in
+          subst (λ (k : ℕ × UnitData). (timing_at k.1 i).len ≤ taken_after new.block (kind_of k.1.work) k.1.timing (timing_at k.1 i) (filled_in new.store k.0)) (λ j. (sym e.0 j, sym e.1 j))
+          (subst (λ n. (timing_at x i).len ≤ n) (λ j. taken_after (sym p.block j) (sym same_kind j) x.timing (timing_at x i) (sym (filled_same u) j)) far)
+      | inr e ↦
+          subst (λ n. (timing_at z i).len ≤ n) (λ j. taken_after (sym p.block j) (kind_of z.work) z.timing (timing_at z i) (sym (filled_same w) j))
+          (heap.exhausted w i z e.1 inside reader none (subst (λ (k : ℕ × ℕ). k.0 < blocks_of k.1 z.timing.len) (λ j. (filled_same w j, p.block j)) still))
+    ];
+    waits = λ w z is full. elim (handed_back w z is) [
+      | inl e ↦
+          let was = heap.waits u x p.was (subst (λ (k : ℕ × ℕ). blocks_of k.1 x.timing.len ≤ k.0) (λ j. (filled_same u j, p.block j)) (subst (λ (k : ℕ × UnitData). blocks_of new.block k.1.timing.len ≤ filled_in new.store k.0) (λ j. (e.0 j, e.1 j)) full)) in
+          absurd (omega (arith, ap length p.first, ap length was.0))
+      | inr e ↦ heap.waits w z e.1 (subst (λ (k : ℕ × ℕ). blocks_of k.1 z.timing.len ≤ k.0) (λ j. (filled_same w j, p.block j)) full)
+    ];
+    timely = λ w z is owes. elim (handed_back w z is) [
+      | inl e ↦
+          let before = heap.timely u x p.was (omega (arith, ap length p.first)) in
+          subst (λ (k : ℕ × UnitData). k.1.timing.start + filled_in new.store k.0 * new.block ≤ index_at (last_stop_in 0 k.1.inputs.items) k.1.timing.rate) (λ j. (sym e.0 j, sym e.1 j))
+          (still_timely x.timing.start (filled_in old.store u) (filled_in new.store u) old.block new.block _ (filled_same u) p.block before)
+      | inr e ↦ still_timely z.timing.start (filled_in old.store w) (filled_in new.store w) old.block new.block _ (filled_same w) p.block (heap.timely w z e.1 owes)
+    ];
+  }

@@ -1,9 +1,9 @@
 -- A cursor in hand that goes on, and the store then.
-use Rattle.std.proofs.Common.{◌≡◌, ◌≢◌, inl, inr, ℕ, zero, suc, ◌+◌, ◌-◌, ◌*◌, ◌<◌, ◌≤◌, ◌&&◌, min, nat_eq, cond, List, [], ◌∷◌, length, get_or, set, Option, None, Some, IsSome, refl, sym, ap, subst, ◌∙◌, arith, length-set}
+use Rattle.std.proofs.Common.{◌≡◌, ◌≢◌, inl, inr, ℕ, zero, suc, ◌+◌, ◌-◌, ◌*◌, ◌<◌, ◌≤◌, ◌&&◌, min, nat_eq, cond, List, ◌∷◌, length, get_or, set, Option, None, Some, IsSome, refl, sym, ap, subst, ◌∙◌, arith, length-set}
 use Rattle.std.specs.Option.{option_map, option_map_or}
 use Rattle.std.proofs.lemmas.List.{get_or-set_same, get_or-set_other}
 use Rattle.std.proofs.lemmas.Bool.{cases_eq, eq-eqb, ne_eqb}
-use Rattle.ny_list.specs.Store.{ListState, StoreState, CursorState, list_at, mark_at, cursors_of, least}
+use Rattle.ny_list.specs.Store.{ListState, StoreState, CursorState, list_at, cursors_of, least}
 use Rattle.ny_list.specs.Steps.{settled, entered, left, with_list, with_move}
 use Rattle.ny_list.specs.Laws.{StoreLaws}
 use Rattle.ny_list.proofs.IndexLemmas.{same_some, sum_at}

@@ -1,5 +1,5 @@
 -- What the parts of units that wait keep, and where the cursors of a unit stand.
-use Rattle.std.proofs.Common.{◌≡◌, ◌⊎◌, inl, inr, ℕ, zero, suc, ◌+◌, ◌<◌, ◌≤◌, ◌&&◌, nat_eq, cond, List, [], ◌∷◌, ◌++◌, length, get_or, slice_get, Option, None, Some, IsSome, refl, sym, ap, subst, ◌∙◌, arith, length-set}
+use Rattle.std.proofs.Common.{◌≡◌, ◌⊎◌, inl, inr, ℕ, zero, suc, ◌+◌, ◌<◌, ◌≤◌, ◌&&◌, nat_eq, cond, List, [], ◌∷◌, ◌++◌, length, get_or, slice_get, Option, None, Some, IsSome, refl, sym, ap, subst, ◌∙◌, arith, length-set, ◌*◌}
 use Rattle.std.specs.List.{sum_by}
 use Rattle.std.specs.Option.{option_map, option_map_or}
 use Rattle.std.proofs.lemmas.List.{length-drop}
@@ -18,12 +18,15 @@ use Rattle.ny_heap.specs.declared.work.Work.{Work}
 use Rattle.ny_heap.specs.declared.work.Work.TheVariants.{Leaf as LeafWork, Pair as PairWork, Abs as AbsWork, Resample as ResampleWork, Filter as FilterWork, Mix as MixWork, Channel as ChannelWork}
 use Rattle.ny_heap.specs.Heap.{Reader, is_reader, stands_in}
 use Rattle.ny_heap.specs.Work.{source_at, with_source, cursor_at, waits_in, flat, kept_in, without_first, HasPlaces, cursors_of_sounds, MovesOn}
-use Rattle.ny_heap.specs.Table.{unit_at, timing_at, input_of, readers_of, own_of, len_of, stands_at, IsKept}
+use Rattle.ny_heap.specs.Table.{timing_at, input_of, readers_of, own_of, len_of, stands_at, IsKept}
 use Rattle.ny_heap.specs.View.{filled_in}
-use Rattle.ny_heap.proofs.TableLemmas.{place_within}
 
 pub filled_is : (s : StoreState) (v : ℕ) (l : ListState) → list_at s v ≡ Some l → filled_in s v ≡ length l.values
 filled_is s v l is = ap (λ (o : Option ListState). option_map_or {U = ℕ} (λ x. length x.values) o 0) is
+
+-- as many samples lie before a stop where as many blocks of one size are filled
+pub still_timely : (start m n b d last : ℕ) → n ≡ m → d ≡ b → start + m * b ≤ last → start + n * d ≤ last
+still_timely start m n b d last filled block before = subst (λ (k : ℕ × ℕ). start + k.0 * k.1 ≤ last) (λ i. (sym filled i, sym block i)) before
 
 -- ---- by the work
 

@@ -14,6 +14,7 @@ use Rattle.ny_heap.proofs.ViewLemmas.{unit_of_node, block_at-state}
 use Rattle.ny_heap.proofs.StepLemmas.{keeps_by, IsHeap-drops, IsTable-drops, released, drops_keep}
 use Rattle.ny_heap.proofs.RoomLemmas.{unit, list, filled, IsTable-grown}
 use Rattle.ny_heap.proofs.GrowLemmas.{node_grown, trimmed_same}
+use Rattle.ny_heap.proofs.KeepLemmas.{still_timely}
 
 pub IsHeap-grown : (old mid : Table) → Grows old mid → IsHeap old → IsHeap mid
 IsHeap-grown old mid g heap = record {
@@ -27,6 +28,7 @@ IsHeap-grown old mid g heap = record {
       subst (λ n. (timing_at x i).len ≤ n) (taken v i x)
       (heap.exhausted v i x (sym (unit old mid g v) ∙ at) inside reader none (subst (λ b. filled_in old.store v < blocks_of b x.timing.len) g.block (subst (λ n. n < blocks_of mid.block x.timing.len) (filled old mid g v) still)));
   waits = λ v x at full. heap.waits v x (sym (unit old mid g v) ∙ at) (subst (λ b. blocks_of b x.timing.len ≤ filled_in old.store v) g.block (subst (λ n. blocks_of mid.block x.timing.len ≤ n) (filled old mid g v) full));
+  timely = λ v x at owes. still_timely x.timing.start (filled_in old.store v) (filled_in mid.store v) old.block mid.block _ (filled old mid g v) g.block (heap.timely v x (sym (unit old mid g v) ∙ at) owes);
 }
   where
     taken : (v i : ℕ) (x : UnitData) → taken_after old.block (kind_of x.work) x.timing (timing_at x i) (filled_in old.store v) ≡ taken_after mid.block (kind_of x.work) x.timing (timing_at x i) (filled_in mid.store v)

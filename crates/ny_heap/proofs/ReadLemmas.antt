@@ -1,30 +1,28 @@
 -- A cursor in hand that goes on, and what it reads.
-use Rattle.std.proofs.Common.{◌≡◌, ◌≢◌, inl, inr, ℕ, zero, suc, ◌+◌, ◌-◌, ◌*◌, ◌/◌, ◌%◌, ◌<◌, ◌≤◌, ◌&&◌, min, nat_eq, cond, List, [], ◌∷◌, ◌++◌, length, take, drop, get_or, set, Option, None, Some, IsSome, ◌⊎◌, refl, sym, ap, subst, ◌∙◌, arith, ℤ, length-set}
-use Rattle.std.specs.Option.{option_map, option_map_or}
-use Rattle.std.proofs.lemmas.List.{get_or-set_same, get_or-set_other, length-take, length-drop, drop-take}
-use Rattle.std.proofs.lemmas.Bool.{cases_eq, cases_lt, eq-eqb, ne_eqb}
+use Rattle.std.proofs.Common.{◌≡◌, inl, inr, ℕ, zero, suc, ◌+◌, ◌-◌, ◌*◌, ◌/◌, ◌%◌, ◌<◌, ◌≤◌, min, cond, List, [], ◌∷◌, ◌++◌, length, take, drop, get_or, Option, None, Some, IsSome, ◌⊎◌, refl, sym, ap, subst, ◌∙◌, arith, ℤ}
+use Rattle.std.specs.Option.{option_map_or}
+use Rattle.std.proofs.lemmas.List.{length-take, length-drop, drop-take}
+use Rattle.std.proofs.lemmas.Bool.{cases_lt, ne_eqb}
 use Rattle.std.proofs.lemmas.Nat.{mul-le}
 use Rattle.std.proofs.Math.Nat.{div-lt_iff_lt-mul, suc-mul, mod-lt, mod-eq-sub-div-mul, div-mul-le_self}
 use Rattle.ny_list.specs.Store as lists
 use Rattle.ny_list.specs.Store.{ListState, StoreState, CursorState, list_at, mark_at, cursors_of, least, block_of}
-use Rattle.ny_list.specs.Steps.{settled, entered, left, with_list, with_move, IsComputed}
+use Rattle.ny_list.specs.Steps.{IsComputed}
 use Rattle.ny_list.specs.Laws.{StoreLaws}
 use Rattle.ny_list.specs.Reading.{Shows}
 use Rattle.ny_list.proofs.ReadLemmas.{run_shown, run_seen_few}
 use Rattle.ny_list.proofs.SettleLemmas.{least_at}
-use Rattle.ny_list.proofs.IndexLemmas.{same_some, sum_at}
 use Rattle.ny_heap.specs.declared.table.Unit.{Unit as UnitData}
 use Rattle.ny_heap.specs.declared.table.Table.{Table}
 use Rattle.ny_heap.specs.Heap.{blocks_of, stands_in, taken_after}
 use Rattle.ny_heap.specs.Steps.{run_of}
 use Rattle.ny_heap.proofs.TableLemmas.{place_within}
-use Rattle.ny_heap.proofs.NeedLemmas.{stands_within}
 use Rattle.ny_heap.specs.Work.{kind_of}
-use Rattle.ny_heap.specs.Table.{unit_at, timing_at, mark_in, len_of, stands_at, computed_in, IsTable, IsRead}
+use Rattle.ny_heap.specs.Table.{unit_at, timing_at, computed_in, IsTable}
 use Rattle.ny_heap.specs.View.{filled_in, IsHeap}
-use Rattle.ny_heap.proofs.ListLemmas.{len_is}
-use Rattle.ny_heap.proofs.CountLemmas.{some_is, is_some_of, cursor_counted}
+use Rattle.ny_heap.proofs.CountLemmas.{some_is, cursor_counted}
 use Rattle.ny_heap.proofs.HeardLemmas.{table_now, lists_now, IsRead-moved}
+use Rattle.ny_heap.proofs.KeepLemmas.{still_timely}
 
 -- ---- the table
 
@@ -51,6 +49,7 @@ module _ (t : Table) (c d : CursorState) (cs : List (Option CursorState)) (table
         subst (λ n. (timing_at x i).len ≤ taken_after t.block (kind_of x.work) x.timing (timing_at x i) n) (sym (filled_now v x at))
         (heap.exhausted v i x at inside reader none (subst (λ n. n < blocks_of t.block x.timing.len) (filled_now v x at) more));
     waits = λ v x at full. heap.waits v x at (subst (λ n. blocks_of t.block x.timing.len ≤ n) (filled_now v x at) full);
+    timely = λ v x at owes. still_timely x.timing.start (filled_in t.store v) (filled_in now.store v) t.block t.block _ (filled_now v x at) refl (heap.timely v x at owes);
   }
 
 -- ---- what is read at once

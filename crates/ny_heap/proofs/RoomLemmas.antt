@@ -1,5 +1,5 @@
 -- Places for units and lists that have nothing yet.
-use Rattle.std.proofs.Common.{◌≡◌, inl, inr, ℕ, zero, suc, ◌+◌, ◌-◌, ◌*◌, ◌≤◌, min, List, [], ◌∷◌, ◌++◌, length, get_or, replicate, Option, None, Some, IsSome, is_some, refl, sym, ap, subst, ◌∙◌, arith, append_assoc, append-nil, count_by}
+use Rattle.std.proofs.Common.{◌≡◌, inl, inr, ℕ, zero, suc, ◌-◌, ◌*◌, ◌≤◌, min, List, [], ◌∷◌, ◌++◌, length, get_or, replicate, Option, None, IsSome, is_some, refl, sym, ap, subst, ◌∙◌, arith, append_assoc, append-nil, count_by}
 use Rattle.std.specs.List.{sum_by}
 use Rattle.std.specs.Option.{option_map_or}
 use Rattle.std.proofs.lemmas.List.{get_or_append_left, get_or-append_right, get_or_past}

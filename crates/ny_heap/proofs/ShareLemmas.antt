@@ -25,6 +25,7 @@ use Rattle.ny_heap.proofs.CountLemmas.{some_is, is_some_of, cursor_counted, held
 use Rattle.ny_heap.proofs.ViewLemmas.{node_of_unit, unit_of_node, block_at-state, filled_is, readers_is}
 use Rattle.ny_heap.proofs.StepLemmas.{keeps_by, IsTable-held, stand_within}
 use Rattle.ny_heap.proofs.HeardLemmas.{marks_entered, stands_of, stands_apart}
+use Rattle.ny_heap.proofs.KeepLemmas.{still_timely}
 
 -- ---- the table
 
@@ -120,6 +121,7 @@ module _ (t : Table) (c : CursorState) (table : IsTable t (Some c ∷ [])) where
         subst (λ n. (timing_at x i).len ≤ taken_after t.block (kind_of x.work) x.timing (timing_at x i) n) (sym (filled_shared v x at))
         (heap.exhausted v i x at inside reader none (subst (λ n. n < blocks_of t.block x.timing.len) (filled_shared v x at) more));
     waits = λ v x at full. heap.waits v x at (subst (λ n. blocks_of t.block x.timing.len ≤ n) (filled_shared v x at) full);
+    timely = λ v x at owes. still_timely x.timing.start (filled_in t.store v) (filled_in store_now v) t.block t.block _ (filled_shared v x at) refl (heap.timely v x at owes);
   }
 
 -- ---- what a contract sees

@@ -1,5 +1,5 @@
 -- Sounds and cursors in hand that are spent together.
-use Rattle.std.proofs.Common.{◌≡◌, inl, inr, ℕ, zero, suc, ◌+◌, ◌-◌, ◌<◌, ◌≤◌, List, [], ◌∷◌, ◌++◌, length, map, get_or, Option, None, Some, IsSome, refl, sym, ap, subst, ◌∙◌, arith, append_assoc, append-nil, Vec, Global}
+use Rattle.std.proofs.Common.{◌≡◌, inl, inr, ℕ, zero, suc, ◌-◌, List, [], ◌∷◌, ◌++◌, length, map, get_or, Option, None, Some, IsSome, refl, sym, ap, subst, ◌∙◌, arith, append_assoc, append-nil}
 use Rattle.std.specs.List.{sum_by}
 use Rattle.std.proofs.lemmas.List.{get_or_append_left, get_or-append_right, map-append}
 use Rattle.std.proofs.lemmas.Bool.{cases_lt}
@@ -7,9 +7,7 @@ use Rattle.ny_list.specs.Store.{CursorState, list_at}
 use Rattle.ny_list.proofs.IndexLemmas.{none_some}
 use Rattle.ny_heap.specs.declared.sound.Sound.{Sound}
 use Rattle.ny_heap.specs.declared.table.Table.{Table}
-use Rattle.ny_heap.specs.declared.work.Work.{Work}
-use Rattle.ny_heap.specs.Work.{waits_in, flat, kept_in, cursors_of_sounds}
-use Rattle.ny_heap.specs.Tasks.{lists_of}
+use Rattle.ny_heap.specs.Work.{flat}
 use Rattle.ny_heap.specs.Table.{held_in, len_of, stands_at, IsTable, Drops}
 use Rattle.ny_heap.proofs.TableLemmas.{place_within}
 use Rattle.ny_heap.proofs.ListLemmas.{len_is, KeepsList-same}

@@ -10,18 +10,19 @@ use Rattle.ny_list.proofs.IndexLemmas.{same_some, none_some, tab_get, tab_past, 
 use Rattle.ny_heap.specs.declared.sound.Sound.{Sound}
 use Rattle.ny_heap.specs.declared.table.Unit.{Unit as UnitData}
 use Rattle.ny_heap.specs.declared.table.Table.{Table}
-use Rattle.ny_heap.specs.Heap.{Reader, Node, HeapState, node_at, block_at, input_at, list_of, place_of, blocks_of, stands_in, taken_after}
+use Rattle.ny_heap.specs.Heap.{Node, HeapState, node_at, block_at, list_of, place_of, blocks_of, stands_in, taken_after}
 use Rattle.ny_heap.specs.Means.{NodeMeans, KeepsMeaning, unit_value, all_inputs, nth_block}
-use Rattle.ny_heap.specs.Reach.{Uses, Read, Hold, ReadOutside, LeadsIn, IsTrimmed}
+use Rattle.ny_heap.specs.Reach.{Uses, ReadOutside, LeadsIn, IsTrimmed}
 use Rattle.ny_heap.specs.Steps.{IsCounted, changed, without_mark, without_sound}
 use Rattle.ny_heap.specs.Work.{kind_of}
-use Rattle.ny_heap.specs.Table.{unit_at, IsTable, Drops, own_in, held_in, mark_in, len_of, stands_at, readers_of, timing_at}
+use Rattle.ny_heap.specs.Table.{unit_at, IsTable, Drops, own_in, held_in, mark_in, len_of, stands_at, timing_at}
 use Rattle.ny_heap.specs.View.{node_of, state_of, state_with, outside_in, filled_in, HaveBranches, IsHeap}
 use Rattle.ny_heap.proofs.TableLemmas.{place_within}
 use Rattle.ny_heap.proofs.ListLemmas.{len_is}
 use Rattle.ny_heap.proofs.CountLemmas.{some_is, is_some_of, held_cons}
 use Rattle.ny_heap.proofs.ViewLemmas.{node_of_unit, unit_of_node, no_unit, block_at-state, filled_is, uses_at, used_there}
 use Rattle.ny_heap.proofs.LawLemmas.{some_term}
+use Rattle.ny_heap.proofs.KeepLemmas.{still_timely}
 
 -- ---- removal
 
@@ -220,6 +221,7 @@ IsHeap-drops old new cs heap table d = record {
       subst (λ n. (timing_at x i).len ≤ n) (taken v i x at)
       (heap.exhausted v i x (d.kept v x at) inside reader none (subst (λ b. filled_in old.store v < blocks_of b x.timing.len) d.block (subst (λ n. n < blocks_of new.block x.timing.len) (filled v x at) still)));
   waits = λ v x at full. heap.waits v x (d.kept v x at) (subst (λ b. blocks_of b x.timing.len ≤ filled_in old.store v) d.block (subst (λ n. blocks_of new.block x.timing.len ≤ n) (filled v x at) full));
+  timely = λ v x at owes. still_timely x.timing.start (filled_in old.store v) (filled_in new.store v) old.block new.block _ (filled v x at) d.block (heap.timely v x (d.kept v x at) owes);
 }
   where
     filled : (v : ℕ) (x : UnitData) → unit_at new v ≡ Some x → filled_in new.store v ≡ filled_in old.store v

@@ -1,20 +1,19 @@
 -- What a contract sees of the table, place by place.
-use Rattle.std.proofs.Common.{◌≡◌, ◌⊎◌, inl, inr, IsSome, ℕ, zero, suc, ◌+◌, ◌<◌, ◌≤◌, List, [], ◌∷◌, length, get_or, map, Option, None, Some, refl, sym, ap, ◌∙◌, arith}
+use Rattle.std.proofs.Common.{◌≡◌, inl, inr, IsSome, ℕ, zero, suc, ◌+◌, ◌<◌, ◌≤◌, List, [], ◌∷◌, length, get_or, map, Option, None, Some, refl, sym, ap, ◌∙◌, arith}
 use Rattle.std.specs.List.{range_with_len, sum_by, slice_get}
 use Rattle.std.specs.Option.{option_map, option_map_or}
 use Rattle.std.proofs.lemmas.List.{get_or_past}
 use Rattle.std.proofs.lemmas.List.FromFn.{length-map-range_with_len}
 use Rattle.std.proofs.lemmas.Bool.{cases_lt}
-use Rattle.ny_list.specs.Store.{ListState, StoreState, CursorState, list_at}
+use Rattle.ny_list.specs.Store.{ListState, CursorState, list_at}
 use Rattle.ny_list.proofs.IndexLemmas.{same_some, none_some, tab_get, tab_past, sums_agree}
 use Rattle.ny_heap.specs.declared.table.Unit.{Unit as UnitData}
 use Rattle.ny_heap.specs.declared.table.Table.{Table}
 use Rattle.ny_heap.specs.Heap as heap
 use Rattle.ny_heap.specs.Heap.{Reader, Waiting, Node, HeapState, node_at, block_at, input_at, readers_in, is_reader, is_captured}
 use Rattle.ny_heap.specs.Reach.{Uses, Read, Hold}
-use Rattle.ny_heap.specs.declared.sound.Sound.{Sound}
-use Rattle.ny_heap.specs.Work.{cursor_at, waits_in, kept_in, cursors_of_sounds}
-use Rattle.ny_heap.specs.Table.{unit_at, input_of, readers_of, timing_at, own_in, own_of, mark_in, len_of, stands_at, IsKept, IsTable}
+use Rattle.ny_heap.specs.Work.{cursor_at, waits_in, kept_in}
+use Rattle.ny_heap.specs.Table.{unit_at, input_of, readers_of, timing_at, own_in, own_of, mark_in, len_of, IsKept, IsTable}
 use Rattle.ny_heap.specs.View.{node_of, state_of, waiting_with, outside_in, filled_in, HaveBranches}
 use Rattle.ny_heap.proofs.TableLemmas.{place_within}
 use Rattle.ny_heap.proofs.ListLemmas.{len_is}

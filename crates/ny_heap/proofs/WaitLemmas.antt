@@ -10,7 +10,7 @@ use Rattle.ny_list.specs.Store.{CursorState}
 use Rattle.ny_list.proofs.IndexLemmas.{same_some, none_some}
 use Rattle.ny_heap.specs.declared.sound.Sound.{Sound}
 use Rattle.ny_heap.specs.declared.table.Table.{Table}
-use Rattle.ny_heap.specs.Heap.{Captured, Waiting, list_of, blocks_of, stands_in, is_captured}
+use Rattle.ny_heap.specs.Heap.{Captured, Waiting, blocks_of, stands_in, is_captured}
 use Rattle.ny_heap.specs.Steps.{captured_of}
 use Rattle.ny_heap.specs.Work.{flat, cursors_of_sounds}
 use Rattle.ny_heap.specs.Table.{len_of, stands_at, IsKept}

@@ -113,6 +113,7 @@ opened_inside B bs t pool block out store units same laws size = record {
     needs = λ v i x c at. absurd (no_unit v x at);
     exhausted = λ v i x at. absurd (no_unit v x at);
     waits = λ v x at. absurd (no_unit v x at);
+    timely = λ v x at. absurd (no_unit v x at);
   };
   have = λ v x at. absurd (no_unit v x at);
   counted = sym (ap (λ s. length s.loose) store ∙ length-replicate {A = Option (List Rattle.std.proofs.Common.ℤ)} pool None);

@@ -1,5 +1,5 @@
 -- The parts that wait of a mix that is to be made. No public clause cites this module.
-use Rattle.std.specs.Prelude.{◌≡◌, ◌++◌, List, map, Vec}
+use Rattle.std.specs.Prelude.{List, map, Vec}
 use Rattle.std.specs.Global.{Global}
 use Rattle.ny_heap.specs.declared.sound.Sound.{Sound}
 

@@ -133,7 +133,7 @@ pub record IsMadeOf (make : Make) (inputs : List Sound) (t : Timing) : Type 0 wh
   pub rates : HaveItsRate make inputs t
   pub heard : IsHeardAs make (map (λ s. s.timing) inputs) t
 
--- what a mix can be made of: parts of its rate, each no earlier and no later than it. (So far none waits.)
+-- what a mix can be made of: parts of its rate, each no earlier and no later than it.
 pub record IsMixOf (parts : List Sound) (t : Timing) : Type 0 where
   pub some : 0 < length parts
   pub bounds : IsTiming t

@@ -1,7 +1,7 @@
 -- How the heap keeps its units and their lists. No public clause cites this module.
 use Rattle.std.specs.Prelude.{◌≡◌, ℕ, zero, suc, ◌+◌, ◌-◌, ◌*◌, ◌^◌, ◌<◌, ◌≤◌, ◌==◌, ◌&&◌, if◌then◌else◌, min, nat_lt, Bool, false, slice_set, List, ◌++◌, map, length, Option, None, Some, IsSome, is_some, count_by, sum_by, slice_index_or, slice_get, vec_capacity, ℤ}
 use Rattle.std.specs.List.{range_with_len}
-use Rattle.std.specs.Option.{option_map_or, option_map, ForSome}
+use Rattle.std.specs.Option.{option_map_or, option_map}
 use Rattle.ny_num.specs.declared.timing.Timing.{Timing}
 use Rattle.ny_num.specs.Sound.{IsTiming}
 use Rattle.ny_list.specs.Store.{ListState, StoreState, CursorState, list_at, cursors_of}

@@ -1,5 +1,5 @@
 -- What a contract sees of the table. No public clause cites this module.
-use Rattle.std.specs.Prelude.{◌≡◌, ℕ, ◌+◌, ◌-◌, ◌^◌, ◌<◌, ◌≤◌, List, [], ◌∷◌, map, length, Option, None, Some, slice_index_or, ℤ}
+use Rattle.std.specs.Prelude.{◌≡◌, ℕ, ◌+◌, ◌-◌, ◌*◌, ◌^◌, ◌<◌, ◌≤◌, List, [], ◌∷◌, map, length, Option, None, Some, slice_index_or, ℤ}
 use Rattle.std.specs.List.{range_with_len}
 use Rattle.std.specs.Option.{option_map, option_map_or}
 use Rattle.ny_num.specs.declared.timing.Timing.{Timing}
@@ -12,6 +12,7 @@ use Rattle.ny_heap.specs.Steps.{captured_of}
 use Rattle.ny_heap.specs.declared.sound.Sound.{Sound}
 use Rattle.ny_heap.specs.Work.{kind_of, source_at, cursor_at, memory_in, waits_in}
 use Rattle.ny_heap.specs.Table.{unit_at, readers_of, mark_in, own_in, held_in, timing_at, IsTable, IsRead}
+use Rattle.ny_num.specs.Grid.{index_at}
 
 -- the stop of the last of these
 abbrev pub last_stop_in : ℕ → List Timing → ℕ
@@ -84,6 +85,10 @@ IsAtNeed t = (v i : ℕ) (x : UnitData) (c : CursorState) → unit_at t v ≡ So
 abbrev pub IsExhausted : Table → Type 0
 IsExhausted t = (v i : ℕ) (x : UnitData) → unit_at t v ≡ Some x → i < length x.inputs.items → IsReader (source_at x.work i) → cursor_at x.work i ≡ None → filled_in t.store v < blocks_of t.block x.timing.len → (timing_at x i).len ≤ taken_after t.block (kind_of x.work) x.timing (timing_at x i) (filled_in t.store v)
 
+-- a unit in which a part waits, or to which one is still to be attached, is filled no further than to the stop that this part follows
+abbrev pub IsTimely : Table → Type 0
+IsTimely t = (v : ℕ) (x : UnitData) → unit_at t v ≡ Some x → 0 < length (waits_in x.work) + x.pending → x.timing.start + filled_in t.store v * t.block ≤ index_at (last_stop_in 0 x.inputs.items) x.timing.rate
+
 -- between two calls: somebody reads each list
 pub record IsHeap (t : Table) : Type 0 where
   pub table : IsTable t []
@@ -92,6 +97,7 @@ pub record IsHeap (t : Table) : Type 0 where
   pub needs : IsAtNeed t
   pub exhausted : IsExhausted t
   pub waits : WaitsForNothing t
+  pub timely : IsTimely t
 
 -- the fields of a heap between two calls
 pub record IsHeapInside {B : Type 0} (branches : ℕ → List B) (t : Table) (size fills peak : ℕ) (out : List ℤ) : Type 0 where

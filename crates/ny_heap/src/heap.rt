@@ -132,7 +132,14 @@ impl<B> Heap<B> {
         ensures keeps { OnErr result (KeepsMeaning self.old self.new) }
     {
         let when = same_timing(&timing);
-        let made = make_unit(&mut self.table, &mut self.branches, alloc, Task::Made(make), inputs, timing)?;
+        let made = make_unit(
+            &mut self.table,
+            &mut self.branches,
+            alloc,
+            Task::Made(make),
+            inputs,
+            timing,
+        )?;
         Ok(begin(made, when))
     }
 
@@ -426,7 +433,14 @@ impl<B: Drop> Heap<B> {
             }
             Ok(halves) => {
                 let task = mix_task(channel, halves.kept);
-                let made = make_unit(&mut self.table, &mut self.branches, alloc, task, parts, timing)?;
+                let made = make_unit(
+                    &mut self.table,
+                    &mut self.branches,
+                    alloc,
+                    task,
+                    parts,
+                    timing,
+                )?;
                 place_branches(&mut self.branches, &made, halves.branches);
                 Ok(begin(made, when))
             }

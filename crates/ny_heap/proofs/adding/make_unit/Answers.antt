@@ -1,4 +1,4 @@
-use Rattle.std.proofs.Common.{arith, ◌<◌, ◌++◌, ◌∙◌, ap, map, length}
+use Rattle.std.proofs.Common.{arith, ◌<◌, ◌++◌, ◌∙◌, ap, map}
 use Rattle.ny_heap.specs.declared.sound.Sound.{Sound}
 use Rattle.ny_heap.specs.Work.{flat}
 use Rattle.ny_heap.specs.Tasks.{lists_of, waits_of_task}

@@ -1,4 +1,4 @@
-use Rattle.std.proofs.Common.{◌≡◌, List, map, deque_items, set, Option, sym, ap, ◌∙◌}
+use Rattle.std.proofs.Common.{List, map, deque_items, set, Option, sym, ap, ◌∙◌}
 use Rattle.std.specs.Option.{option_map_or}
 use Rattle.std.proofs.lemmas.List.{map-set}
 use Rattle.ny_list.specs.Store.{CursorState}

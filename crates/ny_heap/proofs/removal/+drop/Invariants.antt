@@ -1,5 +1,5 @@
 use Rattle.std.proofs.Common.{◌+◌, ◌*◌, length}
-use Rattle.ny_heap.specs.Work.{waits_in, kept_in, cursors_of_sounds}
+use Rattle.ny_heap.specs.Work.{waits_in}
 use Rattle.ny_heap.specs.Table.{Drops, present}
 use Rattle.ny_heap.proofs.DropLemmas.{Removing}
 use Rattle.ny_heap.proofs.SpentLemmas.{cursors_in, Spending}

@@ -7,7 +7,7 @@ use Rattle.ny_heap.specs.Reach.{HeapLaws}
 use Rattle.ny_heap.specs.Steps.{want_of, IsSettledUnit, Fills}
 use Rattle.ny_heap.specs.View.{branches_of, state_of}
 use Rattle.ny_heap.proofs.LawLemmas.{heap_laws, live_is}
-use Rattle.ny_heap.proofs.ReadyLemmas.{can_fill, still_settled}
+use Rattle.ny_heap.proofs.ReadyLemmas.{can_fill, still_settled, settled_until}
 use Rattle.ny_heap.proofs.FillLemmas.{IsHeap-fills, have_filled, block_same, pool_same}
 use Rattle.ny_heap.proofs.FillStepLemmas.{filled_is}
 use Rattle.ny_heap.proofs.FillMeansLemmas.{fill_keeps}
@@ -43,8 +43,9 @@ invariant_of-self g c =
     let block = block_same i.table c.fill_block.new.table c.args.u.0.0 c.fill_block.new.out ready fills in
     let size = pool_same i.table c.fill_block.new.table c.args.u.0.0 c.fill_block.new.out ready fills in
     let most = live_is g.row.B.Denot bs i.table v.heap v.have i.fills i.peak in
+    let still = still_settled g.row.B.Denot bs i.table i.fills i.peak c.args.u.0.0 ready fills.computes.unit fills.computes.was settled in
     record {
-      heap = IsHeap-fills i.table c.fill_block.new.table c.args.u.0.0 c.fill_block.new.out ready fills (still_settled g.row.B.Denot bs i.table i.fills i.peak c.args.u.0.0 ready fills.computes.unit fills.computes.was settled).0;
+      heap = IsHeap-fills i.table c.fill_block.new.table c.args.u.0.0 c.fill_block.new.out ready fills still.0 (settled_until g.row.B.Denot bs i.table c.args.u.0.0 fills.computes.unit still (v.have c.args.u.0.0 fills.computes.unit fills.computes.was));
       have = have_filled i.table c.fill_block.new.table c.args.u.0.0 c.fill_block.new.out ready fills g.row.B.Denot bs v.have;
       counted = v.counted ∙ sym size;
       reached = omega (arith, c.max-self-inside.ensures, v.reached, v.counted, c.free-free.ensures.free, c.if-free-eq0.false);

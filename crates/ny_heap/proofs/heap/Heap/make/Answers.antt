@@ -1,4 +1,4 @@
-use Rattle.std.proofs.Common.{◌≡◌, List, [], ◌++◌, Ok, Err, sym, ap, subst, ◌∙◌, map, deque_items}
+use Rattle.std.proofs.Common.{◌≡◌, List, [], ◌++◌, Ok, Err, sym, ap, subst, ◌∙◌, map, deque_items, arith}
 use Rattle.ny_heap.specs.declared.sound.Sound.{Sound}
 use Rattle.ny_heap.specs.Heap.{HeapState, Made}
 use Rattle.ny_heap.specs.Means.{KeepsMeaning}
@@ -31,7 +31,7 @@ invariant_of-self g c =
     let still : now ≡ bs = λ k v. c.make_unit.ensures.same v k in
     let same = append_none c.args.inputs.items in
     let held = subst (AreHeld {B = g.row.B.Denot} (state_of bs i.table i.fills i.peak)) (sym same) (subst (λ h. AreHeld {B = g.row.B.Denot} h c.args.inputs.items) (sym c.self.view_is) c.requires.inputs) in
-    inside_made g.row.B.Denot bs i.table c.make_unit.new.table i.size i.fills i.peak i.out.items c.self.invariant (Made c.args.make) c.args.timing c.args.inputs.items [] held now [] (Err c.in_err-made.field-0.0) c.in_err-made.ensures.made (no_branches g.row.B.Denot bs now still (Err c.in_err-made.field-0.0))
+    inside_made g.row.B.Denot bs i.table c.make_unit.new.table i.size i.fills i.peak i.out.items c.self.invariant (Made c.args.make) c.args.timing c.args.inputs.items [] held now [] (λ some. absurd (omega (arith, some))) (Err c.in_err-made.field-0.0) c.in_err-made.ensures.made (no_branches g.row.B.Denot bs now still (Err c.in_err-made.field-0.0))
 
 pub returns-in_err-made-clause-laws : goal.returns-in_err-made-clause-laws
 returns-in_err-made-clause-laws g c =
@@ -41,7 +41,7 @@ returns-in_err-made-clause-laws g c =
     let still : now ≡ bs = λ k v. c.make_unit.ensures.same v k in
     let same = append_none c.args.inputs.items in
     let held = subst (AreHeld {B = g.row.B.Denot} (state_of bs i.table i.fills i.peak)) (sym same) (subst (λ h. AreHeld {B = g.row.B.Denot} h c.args.inputs.items) (sym c.self.view_is) c.requires.inputs) in
-    laws_made g.row.B.Denot bs i.table c.make_unit.new.table i.size i.fills i.peak i.out.items c.self.invariant (Made c.args.make) c.args.timing c.args.inputs.items [] held now [] (Err c.in_err-made.field-0.0) c.in_err-made.ensures.made (no_branches g.row.B.Denot bs now still (Err c.in_err-made.field-0.0))
+    laws_made g.row.B.Denot bs i.table c.make_unit.new.table i.size i.fills i.peak i.out.items c.self.invariant (Made c.args.make) c.args.timing c.args.inputs.items [] held now [] (λ some. absurd (omega (arith, some))) (Err c.in_err-made.field-0.0) c.in_err-made.ensures.made (no_branches g.row.B.Denot bs now still (Err c.in_err-made.field-0.0))
 
 pub returns-in_err-made-clause-released : goal.returns-in_err-made-clause-released
 returns-in_err-made-clause-released g c =
@@ -73,7 +73,7 @@ invariant_of-self-2 g c =
     let still : now ≡ bs = λ k v. c.make_unit.ensures.same v k in
     let same = append_none c.args.inputs.items in
     let held = subst (AreHeld {B = g.row.B.Denot} (state_of bs i.table i.fills i.peak)) (sym same) (subst (λ h. AreHeld {B = g.row.B.Denot} h c.args.inputs.items) (sym c.self.view_is) c.requires.inputs) in
-    inside_made g.row.B.Denot bs i.table c.make_unit.new.table i.size i.fills i.peak i.out.items c.self.invariant (Made c.args.make) c.args.timing c.args.inputs.items [] held now [] (Ok c.in_ok-made.made) c.in_ok-made.ensures.made (no_branches g.row.B.Denot bs now still (Ok c.in_ok-made.made))
+    inside_made g.row.B.Denot bs i.table c.make_unit.new.table i.size i.fills i.peak i.out.items c.self.invariant (Made c.args.make) c.args.timing c.args.inputs.items [] held now [] (λ some. absurd (omega (arith, some))) (Ok c.in_ok-made.made) c.in_ok-made.ensures.made (no_branches g.row.B.Denot bs now still (Ok c.in_ok-made.made))
 
 pub returns-clause-laws : goal.returns-clause-laws
 returns-clause-laws g c =
@@ -83,7 +83,7 @@ returns-clause-laws g c =
     let still : now ≡ bs = λ k v. c.make_unit.ensures.same v k in
     let same = append_none c.args.inputs.items in
     let held = subst (AreHeld {B = g.row.B.Denot} (state_of bs i.table i.fills i.peak)) (sym same) (subst (λ h. AreHeld {B = g.row.B.Denot} h c.args.inputs.items) (sym c.self.view_is) c.requires.inputs) in
-    laws_made g.row.B.Denot bs i.table c.make_unit.new.table i.size i.fills i.peak i.out.items c.self.invariant (Made c.args.make) c.args.timing c.args.inputs.items [] held now [] (Ok c.in_ok-made.made) c.in_ok-made.ensures.made (no_branches g.row.B.Denot bs now still (Ok c.in_ok-made.made))
+    laws_made g.row.B.Denot bs i.table c.make_unit.new.table i.size i.fills i.peak i.out.items c.self.invariant (Made c.args.make) c.args.timing c.args.inputs.items [] held now [] (λ some. absurd (omega (arith, some))) (Ok c.in_ok-made.made) c.in_ok-made.ensures.made (no_branches g.row.B.Denot bs now still (Ok c.in_ok-made.made))
 
 pub returns-clause-makes : goal.returns-clause-makes
 returns-clause-makes g c =

@@ -1,4 +1,4 @@
-use Rattle.std.proofs.Common.{◌≡◌, ◌<◌, set, Vec, Global, List, ◌++◌, length, map, deque_items, Ok, Err, refl, sym, ap, subst, ◌∙◌}
+use Rattle.std.proofs.Common.{◌≡◌, ◌<◌, set, Vec, Global, List, ◌++◌, map, deque_items, Ok, Err, refl, sym, ap, subst, ◌∙◌}
 use Rattle.std.specs.Option.{option_map_or}
 use Rattle.std.proofs.lemmas.List.{length-map}
 use Rattle.ny_list.specs.Store.{CursorState}
@@ -9,13 +9,13 @@ use Rattle.ny_heap.specs.Means.{KeepsMeaning}
 use Rattle.ny_heap.specs.Reach.{IsTrimmed}
 use Rattle.ny_heap.specs.Steps.{AreHeld, waiting_of, sounds_of, without_sounds, kind_of_mix, Makes, MakesMeaning}
 use Rattle.ny_heap.specs.Table.{IsTable}
-use Rattle.ny_heap.specs.Tasks.{kind_of_task, lists_of, waits_of_task}
-use Rattle.ny_heap.specs.Mixing.{lists_in, kept_by}
+use Rattle.ny_heap.specs.Tasks.{kind_of_task, lists_of}
+use Rattle.ny_heap.specs.Mixing.{kept_by}
 use Rattle.ny_heap.specs.View.{branches_of, state_of}
 use Rattle.ny_heap.specs.Making.{IsMade}
 use Rattle.ny_heap.proofs.GainLemmas.{lost_here}
 use Rattle.ny_heap.proofs.SpentLemmas.{cursors_in}
-use Rattle.ny_heap.proofs.MadeLemmas.{all_by, lists_by, none_by, mix_branches, waits_are, first_sound, on_err, are_taken, inside_made, inside_lost, laws_made, laws_lost, trimmed_made, keeps_made, makes, makes_meaning, kind_is}
+use Rattle.ny_heap.proofs.MadeLemmas.{all_by, lists_by, none_by, mix_branches, waits_are, first_sound, on_err, are_taken, inside_made, inside_lost, laws_made, laws_lost, trimmed_made, keeps_made, makes, makes_meaning, kind_is, mix_begun}
 use Rattle.ny_heap.proofs.heap.Heap.make_mix.Goals as goal
 
 pub drop_parts-requires : goal.drop_parts-requires
@@ -115,7 +115,7 @@ invariant_of-self-in_err-made-in-Ok g c =
     let now = branches_of (map deque_items c.make_unit.new.branches.items) in
     let still : now ≡ bs = λ k v. c.make_unit.ensures.same v k in
     let made = subst (λ qss. IsMade i.table c.make_unit.new.table (kind_of_task task) c.args.timing c.args.parts.items qss (Err c.in_err-made-in-Ok.field-0.0)) kept c.in_err-made-in-Ok.ensures.made in
-    inside_made g.row.B.Denot bs i.table c.make_unit.new.table i.size i.fills i.peak i.out.items c.self.invariant (kind_of_task task) c.args.timing c.args.parts.items wss held now parts (Err c.in_err-made-in-Ok.field-0.0) made still
+    inside_made g.row.B.Denot bs i.table c.make_unit.new.table i.size i.fills i.peak i.out.items c.self.invariant (kind_of_task task) c.args.timing c.args.parts.items wss held now parts (mix_begun g.row.B.Denot bs i.table i.fills i.peak c.self.invariant.heap.table c.args.parts.items wss c.args.timing c.requires.mix held) (Err c.in_err-made-in-Ok.field-0.0) made still
 
 pub returns-in_err-made-in-Ok-clause-laws : goal.returns-in_err-made-in-Ok-clause-laws
 returns-in_err-made-in-Ok-clause-laws g c =
@@ -131,7 +131,7 @@ returns-in_err-made-in-Ok-clause-laws g c =
     let now = branches_of (map deque_items c.make_unit.new.branches.items) in
     let still : now ≡ bs = λ k v. c.make_unit.ensures.same v k in
     let made = subst (λ qss. IsMade i.table c.make_unit.new.table (kind_of_task task) c.args.timing c.args.parts.items qss (Err c.in_err-made-in-Ok.field-0.0)) kept c.in_err-made-in-Ok.ensures.made in
-    laws_made g.row.B.Denot bs i.table c.make_unit.new.table i.size i.fills i.peak i.out.items c.self.invariant (kind_of_task task) c.args.timing c.args.parts.items wss held now parts (Err c.in_err-made-in-Ok.field-0.0) made still
+    laws_made g.row.B.Denot bs i.table c.make_unit.new.table i.size i.fills i.peak i.out.items c.self.invariant (kind_of_task task) c.args.timing c.args.parts.items wss held now parts (mix_begun g.row.B.Denot bs i.table i.fills i.peak c.self.invariant.heap.table c.args.parts.items wss c.args.timing c.requires.mix held) (Err c.in_err-made-in-Ok.field-0.0) made still
 
 pub returns-in_err-made-in-Ok-clause-released : goal.returns-in_err-made-in-Ok-clause-released
 returns-in_err-made-in-Ok-clause-released g c =
@@ -183,7 +183,7 @@ invariant_of-self-in-Ok g c =
     let o = c.in_ok-made-in-Ok.made in
     let made = subst (λ qss. IsMade i.table c.make_unit.new.table (kind_of_task task) c.args.timing c.args.parts.items qss (Ok o)) kept c.in_ok-made-in-Ok.ensures.made in
     let branches = mix_branches g.row.B.Denot bs grown (map deque_items c.place_branches.new.places.items) c.args.waiting.items wss o c.make_unit.ensures.same (λ d is. subst (λ n. d.list < n) (sym (length-map c.make_unit.new.branches.items deque_items)) (c.in_ok-made-in-Ok.ensures.room d is)) (c.place_branches.ensures ∙ ap (λ qs. option_map_or (λ (d : CursorState). set grown d.list qs) o grown) c.in-Ok.ensures.0) refl in
-    inside_made g.row.B.Denot bs i.table c.make_unit.new.table i.size i.fills i.peak i.out.items c.self.invariant (kind_of_task task) c.args.timing c.args.parts.items wss held now parts (Ok o) made branches
+    inside_made g.row.B.Denot bs i.table c.make_unit.new.table i.size i.fills i.peak i.out.items c.self.invariant (kind_of_task task) c.args.timing c.args.parts.items wss held now parts (mix_begun g.row.B.Denot bs i.table i.fills i.peak c.self.invariant.heap.table c.args.parts.items wss c.args.timing c.requires.mix held) (Ok o) made branches
 
 pub returns-in_ok-made-in-Ok-clause-laws : goal.returns-in_ok-made-in-Ok-clause-laws
 returns-in_ok-made-in-Ok-clause-laws g c =
@@ -201,7 +201,7 @@ returns-in_ok-made-in-Ok-clause-laws g c =
     let o = c.in_ok-made-in-Ok.made in
     let made = subst (λ qss. IsMade i.table c.make_unit.new.table (kind_of_task task) c.args.timing c.args.parts.items qss (Ok o)) kept c.in_ok-made-in-Ok.ensures.made in
     let branches = mix_branches g.row.B.Denot bs grown (map deque_items c.place_branches.new.places.items) c.args.waiting.items wss o c.make_unit.ensures.same (λ d is. subst (λ n. d.list < n) (sym (length-map c.make_unit.new.branches.items deque_items)) (c.in_ok-made-in-Ok.ensures.room d is)) (c.place_branches.ensures ∙ ap (λ qs. option_map_or (λ (d : CursorState). set grown d.list qs) o grown) c.in-Ok.ensures.0) refl in
-    laws_made g.row.B.Denot bs i.table c.make_unit.new.table i.size i.fills i.peak i.out.items c.self.invariant (kind_of_task task) c.args.timing c.args.parts.items wss held now parts (Ok o) made branches
+    laws_made g.row.B.Denot bs i.table c.make_unit.new.table i.size i.fills i.peak i.out.items c.self.invariant (kind_of_task task) c.args.timing c.args.parts.items wss held now parts (mix_begun g.row.B.Denot bs i.table i.fills i.peak c.self.invariant.heap.table c.args.parts.items wss c.args.timing c.requires.mix held) (Ok o) made branches
 
 pub returns-in_ok-made-in-Ok-clause-makes : goal.returns-in_ok-made-in-Ok-clause-makes
 returns-in_ok-made-in-Ok-clause-makes g c =

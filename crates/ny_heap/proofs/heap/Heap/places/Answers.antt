@@ -1,4 +1,4 @@
-use Rattle.std.proofs.Common.{◌≡◌, [], length, map, sym, ap, ◌∙◌, deque_items}
+use Rattle.std.proofs.Common.{[], length, map, sym, ap, ◌∙◌, deque_items}
 use Rattle.std.specs.Option.{option_map}
 use Rattle.std.proofs.lemmas.List.FromFn.{length-map-range_with_len}
 use Rattle.ny_heap.specs.Heap.{HeapState}
