@@ -38,3 +38,6 @@ pub mod NextLemmas
 pub mod PassLemmas
 pub mod SettleLemmas
 pub mod GoingLemmas
+pub mod WaitingMeans
+pub mod RevealMeans
+pub mod RaiseLemmas

@@ -10,3 +10,4 @@ pub mod Table
 pub mod View
 pub mod Making
 pub mod Filling
+pub mod Revealing
