@@ -17,3 +17,6 @@ pub mod ReadWhole
 pub mod Scopes
 pub mod AcceptedKinds
 pub mod ReachedKinds
+pub mod WholeParts
+pub mod Completes
+pub mod WholeTexts
