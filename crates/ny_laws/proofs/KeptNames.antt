@@ -24,7 +24,7 @@ use Rattle.ny_laws.proofs.OfText.{Text}
 
 -- ---- each is kept by its free names
 
-named : (code : Code) (here : ℕ) (names : List NameId) (p : Part) (id : ℕ) → Stands code here names p id → (id < length code.nodes) × (kept_of code id ≡ names)
+pub named : (code : Code) (here : ℕ) (names : List NameId) (p : Part) (id : ℕ) → Stands code here names p id → (id < length code.nodes) × (kept_of code id ≡ names)
 named code here names p id (standing.number _ _ _ v is at) = (at.within, at.free)
 named code here names p id (standing.local _ _ _ y is at) = (at.within, at.free)
 named code here names p id (standing.global _ _ _ n is at) = (at.within, at.free)

@@ -20,3 +20,5 @@ pub mod ReachedKinds
 pub mod WholeParts
 pub mod Completes
 pub mod WholeTexts
+pub mod UsedNames
+pub mod KeptOnly

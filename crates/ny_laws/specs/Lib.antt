@@ -4,3 +4,4 @@ pub mod Kinds
 pub mod Whole
 pub mod Reached
 pub mod Complete
+pub mod UsedNames
