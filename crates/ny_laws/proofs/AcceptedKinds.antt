@@ -28,7 +28,7 @@ use Rattle.ny_laws.proofs.TextKinds.{TextWhole, play_is, bounded}
 use Rattle.ny_laws.proofs.Scopes.{text_whole}
 use Rattle.ny_laws.proofs.PlayedKinds.{kinds_hold}
 
-none_earliest : (fs : List Fault) → earliest fs ≡ None → fs ≡ []
+pub none_earliest : (fs : List Fault) → earliest fs ≡ None → fs ≡ []
 unfolding earliest
 none_earliest [] is = refl
 none_earliest (f ∷ fs) is = by (list_any (λ g. comes_before g f) fs) refl (λ rest. none_earliest fs rest) is

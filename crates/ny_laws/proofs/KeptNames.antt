@@ -20,10 +20,11 @@ use Rattle.ny_check.proofs.OperatorNodes.{waiting, operator_waiting}
 use Rattle.ny_laws.specs.Standing.{IsAt, Stands, EachStands, IsSomePart, body_before}
 use Rattle.ny_laws.specs.Standing as standing
 use Rattle.ny_laws.proofs.Names.{finds}
+use Rattle.ny_laws.proofs.OfText.{Text}
 
 -- ---- each is kept by its free names
 
-named : (code : Code) (here : ℕ) (names : List NameId) (p : Part) (id : ℕ) → Stands code here names p id → (id < length code.nodes) × (kept_of code id ≡ names)
+pub named : (code : Code) (here : ℕ) (names : List NameId) (p : Part) (id : ℕ) → Stands code here names p id → (id < length code.nodes) × (kept_of code id ≡ names)
 named code here names p id (standing.number _ _ _ v is at) = (at.within, at.free)
 named code here names p id (standing.local _ _ _ y is at) = (at.within, at.free)
 named code here names p id (standing.global _ _ _ n is at) = (at.within, at.free)
@@ -104,15 +105,15 @@ module _ (code : Code) (ordered : IsOrdered code) (here : ℕ) where
 
 -- ---- of a whole table
 
-waiting_kept : (code : Code) → IsOrdered code → ((id : ℕ) → id < length code.nodes → IsSomePart code id) → (id : ℕ) → KeepFree code (waiting (node_at code id))
-waiting_kept code ordered each id =
+waiting_kept : (code : Code) → IsOrdered code → Text code → (id : ℕ) → KeepFree code (waiting (node_at code id))
+waiting_kept code ordered text id =
     elim (cases_lt id (length code.nodes)) [
-      | inl lt ↦ let part : IsSomePart code id = each id lt in kept_parts code ordered part.here part.names part.part id part.stands
+      | inl lt ↦ let part : IsSomePart text.declared text.play code id = text.table.each id lt in kept_parts code ordered part.here part.names part.part id part.stands
       | inr ge ↦ subst (λ (n : Node). KeepFree code (waiting n)) (sym (get_or_past code.nodes id no_node ge)) tt
     ]
 
-pub keeps_free : (code : Code) → IsOrdered code → ((id : ℕ) → id < length code.nodes → IsSomePart code id) → KeepsFree code
-keeps_free code ordered each id ids is = subst (λ (n : Node). KeepFree code (waiting n)) is (waiting_kept code ordered each id)
+pub keeps_free : (code : Code) → IsOrdered code → Text code → KeepsFree code
+keeps_free code ordered text id ids is = subst (λ (n : Node). KeepFree code (waiting n)) is (waiting_kept code ordered text id)
 
-pub repeats_keep_free : (code : Code) → IsOrdered code → ((id : ℕ) → id < length code.nodes → IsSomePart code id) → RepeatsKeepFree code
-repeats_keep_free code ordered each id x n part is = (subst (λ (m : Node). KeepFree code (waiting m)) is (waiting_kept code ordered each id)).0
+pub repeats_keep_free : (code : Code) → IsOrdered code → Text code → RepeatsKeepFree code
+repeats_keep_free code ordered text id x n part is = (subst (λ (m : Node). KeepFree code (waiting m)) is (waiting_kept code ordered text id)).0

@@ -17,3 +17,8 @@ pub mod ReadWhole
 pub mod Scopes
 pub mod AcceptedKinds
 pub mod ReachedKinds
+pub mod WholeParts
+pub mod Completes
+pub mod WholeTexts
+pub mod UsedNames
+pub mod KeptOnly

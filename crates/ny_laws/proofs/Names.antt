@@ -47,16 +47,16 @@ module _ (x : NameId) (free : ℕ → Bool) where
 
 -- ---- what a part uses, at each kind of term
 
-abbrev writing_of_term : Term → Writing
+abbrev pub writing_of_term : Term → Writing
 writing_of_term = fold-Term Writing BindWriting Writing term_writing bound_writing part_writing
 
-writing-at : (p : Part) (x : Term-F Term Bound Part) → p.term ≡ roll-Term x
+pub writing-at : (p : Part) (x : Term-F Term Bound Part) → p.term ≡ roll-Term x
     → writing p ≡ term_writing (map-Term Term Bound Part Writing BindWriting Writing writing_of_term writing_of_bind writing x)
 writing-at p x is =
     fold_out-Part Writing BindWriting Writing term_writing bound_writing part_writing p ∙ ap writing_of_term is
     ∙ fold-roll-Term Writing BindWriting Writing term_writing bound_writing part_writing x
 
-bind-is : (b : Bound) → writing_of_bind b ≡ record { name = b.name; write = (writing b.value).write; uses = (writing b.value).uses }
+pub bind-is : (b : Bound) → writing_of_bind b ≡ record { name = b.name; write = (writing b.value).write; uses = (writing b.value).uses }
 bind-is b = fold_out-Bound Writing BindWriting Writing term_writing bound_writing part_writing b
 
 -- ---- a part and its node

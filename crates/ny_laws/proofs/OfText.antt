@@ -1,5 +1,5 @@
 -- A program that was accepted is the table of a text.
-use Rattle.std.proofs.Common.{◌≡◌, ℕ, ◌<◌, List, Option, Some, None, length, sym, subst}
+use Rattle.std.proofs.Common.{◌≡◌, ℕ, List, Option, Some, None, sym, subst}
 use Rattle.ny_resolve.specs.declared.term.Part.{Part}
 use Rattle.ny_resolve.specs.declared.term.Declared.{Declared}
 use Rattle.ny_resolve.specs.Declarations.{tree_read}
@@ -8,7 +8,7 @@ use Rattle.ny_check.specs.Code.{Code}
 use Rattle.ny_check.specs.Writing.{program_of}
 use Rattle.ny_check.specs.Acceptance.{program_in, program_with}
 use Rattle.ny_check.specs.Texts.{IsAccepted}
-use Rattle.ny_laws.specs.Standing.{IsTableOf, IsSomePart}
+use Rattle.ny_laws.specs.Standing.{IsTableOf}
 use Rattle.ny_laws.proofs.Tables.{is_table}
 
 some_code : (a b : Code) → Some a ≡ Some b → a ≡ b
@@ -37,6 +37,3 @@ pub text_of : (code : Code) → IsAccepted code → Text code
 unfolding program_in
 text_of code is =
     let t = tree_read is.tree in of_program t.declared t.play (channels_in (text_kind t.declared t.play).kind) code is.program
-
-pub each_part : (code : Code) → IsAccepted code → (id : ℕ) → id < length code.nodes → IsSomePart code id
-each_part code is = (text_of code is).table.each

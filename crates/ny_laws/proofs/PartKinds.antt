@@ -14,6 +14,7 @@ use Rattle.ny_resolve.specs.declared.term.Part.{Part}
 use Rattle.ny_resolve.specs.declared.term.Bound.{Bound}
 use Rattle.ny_resolve.specs.declared.term.Declared.{Declared}
 use Rattle.ny_resolve.specs.Builtins.{operator_arity, fits}
+use Rattle.ny_resolve.specs.Literals.{is_zero}
 use Rattle.ny_kinds.specs.declared.kind.Kind.{Kind}
 use Rattle.ny_kinds.specs.declared.kind.Kind.TheVariants.{Number, Sound}
 use Rattle.ny_kinds.specs.declared.kind.Found.{Found}
@@ -32,7 +33,7 @@ use Rattle.ny_laws.specs.Standing.{IsAt, Stands, EachStands, BindsStand, body_be
 use Rattle.ny_laws.specs.Standing as standing
 use Rattle.ny_laws.specs.Kinds.{Kinds, IsOf, AreOf, AllOf, BindsAreOf, AreValues}
 use Rattle.ny_laws.specs.Kinds as kinds
-use Rattle.ny_laws.specs.Whole.{Place, Tested, TestedBind, all_whole, block_whole, with_name, term_whole, is_whole, is_whole_bind, few}
+use Rattle.ny_laws.specs.Whole.{Place, Tested, TestedBind, all_whole, block_whole, with_name, is_times, term_whole, is_whole, is_whole_bind, few}
 use Rattle.ny_laws.proofs.Layers.{kind_of_term, whole_term, kind-at, kind-bind, whole-at, whole-bind}
 use Rattle.ny_laws.proofs.KindNames.{some_values, names_of, AllValue, some_push, names_push, values_push, bound_kind_of}
 use Rattle.ny_laws.proofs.OperatorKinds.{both_true, given_is, number_is, sound_is, operator_is, same_length}
@@ -311,14 +312,14 @@ module _ (code : Code) (ds : List Declared) (here : ℕ) (within : here ≤ leng
         (λ k said. operator_is code values id o ids args.0
         (ap (λ (n : ℕ). fits (operator_arity o) n && few o n) (sym (mapped_count is_whole es ∙ each_count (is_seq o) es ids each)) ∙ parts.0) k at.node args.2 (sym row ∙ said)) h) none
     kinded names p id (standing.over _ _ _ a v e is one at) values all whole none =
-        let told = whole_of p values (Term-F.Over a v) (is ∙ sym (rolls-Over a v)) whole in
+        let told = (both_true (not (is_zero v)) (is_whole a (place values)) (whole_of p values (Term-F.Over a v) (is ∙ sym (rolls-Over a v)) whole)).1 in
         made_at p id values (Term-F.Over a v) (is ∙ sym (rolls-Over a v))
         (over_one id values values p.at divided_row a e.0 (kinded [] a e.0 one values all told) divided_speaks
         (λ j k row of. let g = given_is (is_number j) Number k row in
         subst (IsOf code values id) g.1 (quotient_is id values e v at.node (subst (IsOf code values e.0) (number_is j g.0) of)))) none
     kinded names p id (standing.repeat _ _ _ o x n e i is one at) values all whole none =
         let inner : Kinds = values ++ (x, Number) ∷ [] in
-        let told = whole_of p values (Term-F.Repeat o x n e) (is ∙ sym (rolls-Repeat o x n e)) whole in
+        let told = (both_true (is_times n) (is_whole e (with_name x (place values))) (whole_of p values (Term-F.Repeat o x n e) (is ∙ sym (rolls-Repeat o x n e)) whole)).1 in
         made_at p id values (Term-F.Repeat o x n e) (is ∙ sym (rolls-Repeat o x n e))
         (subst (λ (s : Scope). (judged p.at (sound_row (kind_of e s).kind) (kind_of e s).fault).fault ≡ None
         → (k : Kind) × ((judged p.at (sound_row (kind_of e s).kind) (kind_of e s).fault).kind ≡ Some k) × IsOf code values id k) (sym (later values x Number))

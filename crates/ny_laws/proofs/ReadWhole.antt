@@ -1,11 +1,11 @@
 -- What is read without a fault leaves nothing out.
 use Rattle.std.proofs.Common.{◌≡◌, ℕ, suc, ◌+◌, Bool, true, false, List, [], ◌∷◌, ◌++◌, map, length, get_or, refl, sym, ap, ◌∙◌, subst, Option, Some, None, cond, arith}
-use Rattle.std.specs.Prelude.{ℤ, pos, not, ◌&&◌, ◌||◌, nat_eq, nat_lt, nat_le, if◌then◌else◌, is_some, bytes_eq, int_lt, ◌%◌, ◌==◌}
+use Rattle.std.specs.Prelude.{ℤ, pos, not, ◌&&◌, ◌||◌, nat_eq, nat_lt, nat_le, if◌then◌else◌, is_some, bytes_eq, int_lt, ◌/◌, ◌%◌, ◌==◌}
 use Rattle.std.specs.List.{list_any}
 use Rattle.std.specs.Map.{lookup}
 use Rattle.std.proofs.lemmas.Bool.{eqb-true, eq-eqb, ne_eqb, lt-ltb, leb-false, le-leb, ltb-false}
 use Rattle.std.proofs.lemmas.List.{reverse-append}
-use Rattle.ny_num.specs.Grid.{ticks_of_micro}
+use Rattle.ny_num.specs.Grid.{ticks_of_micro, count_of}
 use Rattle.ny_warp.specs.Maps.{is_rising, rises_from}
 use Rattle.ny_scope.specs.Scopes.{last_of}
 use Rattle.ny_syntax.specs.declared.tree.Form.{Form}
@@ -40,13 +40,13 @@ use Rattle.ny_resolve.specs.declared.term.NameId.{NameId}
 use Rattle.ny_resolve.specs.declared.term.Declared.{Declared}
 use Rattle.ny_resolve.specs.Faults.{fault_if}
 use Rattle.ny_resolve.specs.Builtins.{Bytes, builtin_of, operator_arity, arity_of, fits}
-use Rattle.ny_resolve.specs.Literals.{Shape, bare_in, is_mapped, literals_in, is_good_map, literal_map, is_map_of, rises, hour, map_literals, some_list, value_of_shape, is_zero, rate_of_shape, count_of_shape}
+use Rattle.ny_resolve.specs.Literals.{Shape, bare_in, is_mapped, literals_in, is_good_map, literal_map, is_map_of, rises, hour, map_literals, some_list, value_of_shape, is_zero, rate_of_shape, is_count, literal_in, literal_count, count_of_shape}
 use Rattle.ny_resolve.specs.Names.{Scope, name_at, local_of, with_local, variable_faults, function_faults, again_faults, seen_after}
 use Rattle.ny_resolve.specs.Keys.{same_name}
 use Rattle.ny_resolve.specs.Reading.{ReadPart, ReadParts, Reading, Formed, BindReading, part_at, no_part, read_as, read_parts, global_term, value_named, with_counter, operand_read, arguments_read, first_counter, first_place, repeat_term, rate_or, is_vector, call_faults, builtin_called, function_term, function_called, called, read_binds, block_read, operator_of, prefix_operator, is_division, binary_read, choice_read, form_reading, bind_reading, expr_reading, reading, reading_of_bind}
 use Rattle.ny_kinds.specs.Kinds.{no_declared}
 use Rattle.ny_check.specs.Writing.{points_of, points_from}
-use Rattle.ny_laws.specs.Whole.{Place, Tested, TestedBind, all_whole, block_whole, term_whole, is_whole, is_whole_bind, few}
+use Rattle.ny_laws.specs.Whole.{Place, Tested, TestedBind, all_whole, block_whole, is_times, term_whole, is_whole, is_whole_bind, few}
 use Rattle.ny_laws.proofs.Layers.{whole_term, whole-at, whole-bind}
 use Rattle.ny_laws.proofs.OperatorKinds.{both_true}
 
@@ -95,6 +95,22 @@ good_map s h = by (literals_in s) h
     by : (o : Option (List ℤ)) → literal_map o ≡ true → is_rising (points_of (some_list o)) ≡ true
     by (Some vs) k = rising vs k
     by None k = cc
+
+-- ---- counts
+
+good_count : (s : Shape) → nat_eq (count_of_shape s) 0 ≡ false → is_times (count_of_shape s) ≡ true
+good_count s h = of_literal (literal_in s) h
+  where
+    of_count : (v : ℤ) (b : Bool) → is_count v ≡ b → nat_eq (if b then count_of v / 1000000 else 0) 0 ≡ false → is_times (if b then count_of v / 1000000 else 0) ≡ true
+    of_count v true is k =
+        let n : ℕ = count_of v / 1000000 in
+        let parts = both_true (nat_eq (count_of v % 1000000) 0 && nat_le 1 n) (nat_le n 100000) is in
+        both_are (nat_le 1 n) (nat_le n 100000) (both_true (nat_eq (count_of v % 1000000) 0) (nat_le 1 n) parts.0).1 parts.1
+    of_count v false is k = cc
+
+    of_literal : (o : Option ℤ) → nat_eq (literal_count o) 0 ≡ false → is_times (literal_count o) ≡ true
+    of_literal (Some v) k = of_count v (is_count v) refl k
+    of_literal None k = cc
 
 -- ---- what a place sees
 
@@ -331,13 +347,14 @@ module _ (ds : List Declared) where
       ∙ apply_whole at o r.parts (place_of s names) (ap (λ (n : ℕ). fits (operator_arity o) n) many ∙ count.0) (ap (λ (n : ℕ). few o n) many ∙ few_is o (length rs) count.1) each
 
   -- a repeat whose first argument is a bare name
-  repeat_whole : (at : ℕ) (o : Order) (x : Option Bytes) (place n : ℕ) (c : GoodReading) (s : Scope) (names : List NameId) → Sees s names → is_some x ≡ true
+  repeat_whole : (at : ℕ) (o : Order) (x : Option Bytes) (place n : ℕ) (c : GoodReading) (s : Scope) (names : List NameId) → Sees s names → is_some x ≡ true → is_times n ≡ true
       → (c.0.read (with_counter x place s)).faults ≡ [] → is_whole (part_at at (repeat_term o x place n (c.0.read (with_counter x place s)).part)) (place_of s names) ≡ true
-  repeat_whole at o None place n c s names sees some none = cc
-  repeat_whole at o (Some x) place n c s names sees some none =
+  repeat_whole at o None place n c s names sees some times none = cc
+  repeat_whole at o (Some x) place n c s names sees some times none =
       let p : Part = (c.0.read (with_local x place s)).part in
       whole_as at (term.Repeat o (name_at place) n p) (Term-F.Repeat o (name_at place) n p) (place_of s names) (sym (rolls-Repeat o (name_at place) n p))
-      (c.1 (with_local x place s) (names ++ name_at place ∷ []) (sees_local s names x place sees) none)
+      (both_are (is_times n) (is_whole p (place_of (with_local x place s) (names ++ name_at place ∷ []))) times
+      (c.1 (with_local x place s) (names ++ name_at place ∷ []) (sees_local s names x place sees) none))
 
   repeat_called : (at : ℕ) (o : Order) (es : List GoodReading) (s : Scope) (names : List NameId) → Sees s names → (builtin_called at (builtin.Repeat o) (readings es) s).faults ≡ []
       → is_whole (builtin_called at (builtin.Repeat o) (readings es) s).part (place_of s names) ≡ true
@@ -355,7 +372,9 @@ module _ (ds : List Declared) where
       let first = none_left (f0 ++ r0.faults) ((f1 ++ r1.faults) ++ (r2.faults ++ [])) all.1 in
       let later = none_left (f1 ++ r1.faults) (r2.faults ++ []) first.1 in
       let some : is_some counter ≡ true = not_not (is_some counter) (no_fault (not (is_some counter)) why.Kind a.0.at (none_left f0 r0.faults first.0).0) in
-      repeat_whole at o counter a.0.at (count_of_shape b.0.shape) c s names sees some (none_left r2.faults [] later.1).0
+      let times : is_times (count_of_shape b.0.shape) ≡ true =
+      good_count b.0.shape (no_fault (nat_eq (count_of_shape b.0.shape) 0) why.BadCount b.0.at (none_left f1 r1.faults later.0).0) in
+      repeat_whole at o counter a.0.at (count_of_shape b.0.shape) c s names sees some times (none_left r2.faults [] later.1).0
   repeat_called at o (a ∷ b ∷ c ∷ d ∷ es) s names sees none =
       let n : ℕ = length (readings (a ∷ b ∷ c ∷ d ∷ es)) in
       let count = counted_call at (builtin.Repeat o) n (none_left (call_faults at (builtin.Repeat o) n) _ none).0 in
@@ -427,8 +446,9 @@ module _ (ds : List Declared) where
           else read_as at (term.Apply (operator_of o) ((a.read s).part ∷ (b.read s).part ∷ [])) ((a.read s).faults ++ (b.read s).faults)).part (place_of s names) ≡ true
       by true is h =
           let v : ℤ = value_of_shape b.shape in
+          let both = none_left (fault_if (is_zero v) why.ZeroDivisor at) (a.read s).faults h in
           whole_as at (term.Over (a.read s).part v) (Term-F.Over (a.read s).part v) (place_of s names) (sym (rolls-Over (a.read s).part v))
-          (good s names sees (none_left (fault_if (is_zero v) why.ZeroDivisor at) (a.read s).faults h).1)
+          (both_are (not (is_zero v)) (is_whole (a.read s).part (place_of s names)) (ap not (no_fault (is_zero v) why.ZeroDivisor at both.0)) (good s names sees both.1))
       by false is h =
           let both = none_left (a.read s).faults (b.read s).faults h in
           let count = two_count o is in

@@ -32,10 +32,10 @@ pub record TextWhole (ds : List Declared) (part : Part) : Type 0 where
 
 -- ---- where a declaration stands
 
-abbrev StandsAt : Code → ℕ → Declared → Type 0
+abbrev pub StandsAt : Code → ℕ → Declared → Type 0
 StandsAt code n d = ((function_at code n).params ≡ d.params) × Stands code n [] d.body (function_at code n).body.0
 
-body_at : (code : Code) (ds : List Declared) (i n : ℕ) → BodiesStand code i ds → n < length ds → StandsAt code (i + n) (declared_at ds n)
+pub body_at : (code : Code) (ds : List Declared) (i n : ℕ) → BodiesStand code i ds → n < length ds → StandsAt code (i + n) (declared_at ds n)
 body_at code [] i n h lt = absurd (omega arith)
 body_at code (d ∷ ds) i zero h lt = let same : i ≡ i + 0 = omega arith in subst (λ (k : ℕ). StandsAt code k d) same (h.0, h.1)
 body_at code (d ∷ ds) i (suc n) h lt =

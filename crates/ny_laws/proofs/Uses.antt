@@ -55,7 +55,7 @@ finds_under x y f uses h bound found = ((h (bound ++ y ∷ []) found).0, λ is f
     by false is one free = (h (bound ++ y ∷ []) found).1 is (one ∙ ap (λ (t : Bool). t || false) free)
 
 -- a bare name
-same_among : (x y : NameId) (xs : List NameId) → same_name x y ≡ true → among x xs ≡ is_among y xs
+pub same_among : (x y : NameId) (xs : List NameId) → same_name x y ≡ true → among x xs ≡ is_among y xs
 same_among x y xs h = ap (λ (n : ℕ). list_any (same_name (record { 0 = n })) xs) (eqb-true x.0 y.0 h)
 
 found_now : (x y : NameId) (found : List NameId) → same_name x y ≡ true → among x (found ++ y ∷ []) ≡ true

@@ -16,6 +16,7 @@ use Rattle.ny_check.specs.declared.node.ExprId.{ExprId}
 use Rattle.ny_check.specs.Code.{Code, node_at, function_at}
 use Rattle.ny_check.specs.Writing.{writing, kept_names, is_seq, is_in_turn, global_node, call_node, operator_node, quotient_node, warp_node}
 use Rattle.ny_check.specs.KeptNames.{kept_of}
+use Rattle.ny_laws.specs.TextParts.{IsInText}
 
 -- this node stands at a place of the table, and these names are kept of it
 pub record IsAt (code : Code) (id : ℕ) (at : Node) (names : List NameId) : Type 0 where
@@ -61,11 +62,18 @@ mutual
     one_bind : (b : Bound) (bs : List Bound) (id : ExprId) (binds : List (NameId × ExprId)) → Stands code here [] b.value id.0 → BindsStand code here bs binds
         → BindsStand code here (b ∷ bs) ((b.name, id) ∷ binds)
 
--- a node stands for some part of the text
-pub record IsSomePart (code : Code) (id : ℕ) : Type 0 where
+-- all free names of a part are kept, or none
+abbrev pub AreKept : List NameId → Part → Type 0
+AreKept names p = (keeps : Bool) × (names ≡ kept_names keeps (writing p).uses)
+
+-- a node stands for a part of the text, of which its free names are kept, or none
+pub record IsSomePart (ds : List Declared) (play : Part) (code : Code) (id : ℕ) : Type 0 where
   pub here : ℕ
+  pub seen : List NameId
   pub names : List NameId
   pub part : Part
+  pub is_in : IsInText ds play here seen part
+  pub kept : AreKept names part
   pub stands : Stands code here names part id
 
 -- the declarations from number `here` on: the parameters, and the body
@@ -74,10 +82,10 @@ BodiesStand code here [] = Unit {0}
 BodiesStand code here (d ∷ ds) =
     ((function_at code here).params ≡ d.params) × Stands code here [] d.body (function_at code here).body.0 × BodiesStand code (here + 1) ds
 
--- A table is that of a text: each declaration stands there, and what is played, after all declarations; and each node stands for some
--- part.
+-- A table is that of a text: each declaration stands there, and what is played, after all declarations; and each node stands for a part
+-- of the text.
 pub record IsTableOf (ds : List Declared) (part : Part) (code : Code) : Type 0 where
   pub bodies : BodiesStand code 0 ds
   pub count : length code.functions ≡ length ds
   pub play : Stands code (length ds) [] part code.play.0
-  pub each : (id : ℕ) → id < length code.nodes → IsSomePart code id
+  pub each : (id : ℕ) → id < length code.nodes → IsSomePart ds part code id

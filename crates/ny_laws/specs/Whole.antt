@@ -1,6 +1,6 @@
 -- Parts of which the table leaves nothing out: whatever they name is there, calls and operators have as many operands as they take, and
--- literals are as they should be. The parts of an accepted text are so.
-use Rattle.std.specs.Prelude.{ℕ, Bool, true, false, ◌&&◌, nat_lt, nat_le, nat_eq, List, [], ◌∷◌, ◌++◌, length, get_or}
+-- literals are as they should be: counts, divisors and maps. The parts of an accepted text are so.
+use Rattle.std.specs.Prelude.{ℕ, Bool, true, false, not, ◌&&◌, nat_lt, nat_le, nat_eq, List, [], ◌∷◌, ◌++◌, length, get_or}
 use Rattle.std.specs.List.{list_any}
 use Rattle.ny_warp.specs.Maps.{is_rising}
 use Rattle.ny_resolve.specs.declared.builtin.Operator.{Operator}
@@ -12,6 +12,7 @@ use Rattle.ny_resolve.specs.declared.term.Part.{Part}
 use Rattle.ny_resolve.specs.declared.term.Bound.{Bound}
 use Rattle.ny_resolve.specs.declared.term.Declared.{Declared}
 use Rattle.ny_resolve.specs.Builtins.{operator_arity, fits}
+use Rattle.ny_resolve.specs.Literals.{is_zero}
 use Rattle.ny_resolve.specs.Keys.{same_name}
 use Rattle.ny_kinds.specs.Kinds.{no_declared}
 use Rattle.ny_check.specs.Writing.{points_of}
@@ -46,6 +47,10 @@ abbrev pub few : Operator → ℕ → Bool
 few op.Vector n = nat_le n 8
 few _ n = true
 
+-- a repeat has one part at least, and at most 100,000
+abbrev pub is_times : ℕ → Bool
+is_times n = nat_le 1 n && nat_le n 100000
+
 abbrev pub term_whole : Term-F Tested TestedBind Tested → Tested
 term_whole (Term-F.Number v) s = true
 term_whole (Term-F.Local x) s = list_any (same_name x) s.names
@@ -53,8 +58,8 @@ term_whole (Term-F.Global n) s = nat_lt n s.here && (get_or s.declared n no_decl
 term_whole (Term-F.Call n es) s = (nat_lt n s.here && nat_eq (length es) (length (get_or s.declared n no_declared).params)) && all_whole es s
 term_whole (Term-F.Block bs e) s = block_whole bs e s
 term_whole (Term-F.Apply o es) s = (fits (operator_arity o) (length es) && few o (length es)) && all_whole es s
-term_whole (Term-F.Over a v) s = a s
-term_whole (Term-F.Repeat o x n e) s = e (with_name x s)
+term_whole (Term-F.Over a v) s = not (is_zero v) && a s
+term_whole (Term-F.Repeat o x n e) s = is_times n && e (with_name x s)
 term_whole (Term-F.Nameless e) s = false
 term_whole (Term-F.Warp vs e) s = is_rising (points_of vs) && e s
 term_whole (Term-F.Rate w r e) s = e s

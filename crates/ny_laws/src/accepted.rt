@@ -1,3 +1,4 @@
+ghost use Rattle.ny_laws.specs.Complete.{NodesAreWhole, IsWholeText};
 ghost use Rattle.ny_laws.specs.Kinds.{IsPlayable};
 ghost use Rattle.ny_laws.specs.Reached.{ReachedHaveMeaning, PlaysItsChannels, HasItsChannels};
 
@@ -11,6 +12,16 @@ pub fn meaning_law(program: &Program)
     ensures reached { ReachedHaveMeaning program.now }
     ensures played { PlaysItsChannels program.now }
     ensures channels { HasItsChannels program.now }
+{
+    program.order_law();
+    program.text_law();
+}
+
+/// The law of whole tables (`docs/DEFINITIONS.md`, "Tables that leave nothing out"): each node names nodes before it and has as many
+/// operands as it takes; and it stands for a part of the text, in the place of nothing that is missing.
+pub fn whole_law(program: &Program)
+    ensures nodes { NodesAreWhole program.now }
+    ensures text { IsWholeText program.now }
 {
     program.order_law();
     program.text_law();

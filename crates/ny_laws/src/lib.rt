@@ -8,7 +8,7 @@ mod kept;
 mod kinds;
 mod table;
 
-pub use accepted::meaning_law;
+pub use accepted::{meaning_law, whole_law};
 pub use kept::kept_name_laws;
 pub use kinds::kinds_law;
 pub use table::table_law;
