@@ -69,7 +69,7 @@ pub(crate) fn put(parts: &mut Items<Part>, part: Part) -> Result<(), AllocError>
 }
 
 /// Takes all parts that were read.
-pub(crate) fn taken(alloc: Global, parts: &mut Items<Part>) -> Items<Part>
+fn taken(alloc: Global, parts: &mut Items<Part>) -> Items<Part>
     ensures { result ≡ parts.old }
 {
     replace(parts, Items::new(alloc))

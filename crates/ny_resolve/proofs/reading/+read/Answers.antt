@@ -6,7 +6,7 @@ use Rattle.ny_resolve.specs.declared.term.Bound.{Bound}
 use Rattle.ny_resolve.specs.Names.{Scope, scope_of}
 use Rattle.ny_resolve.specs.Sizes.{size_of_part, size_of_bound}
 use Rattle.ny_resolve.proofs.Earliest.{more, after_none}
-use Rattle.ny_resolve.proofs.Forms.{faults-Number, faults-If, faults-Block, faults-Division, faults-Binary, bind_is, arguments-none}
+use Rattle.ny_resolve.proofs.Forms.{faults-Number, faults-If, faults-Division, faults-Binary, bind_is, arguments-none}
 use Rattle.ny_resolve.proofs.PartSizes.{read_step, bound-small}
 use Rattle.ny_resolve.proofs.reading.+read.Goals as goal
 
