@@ -56,8 +56,8 @@ fn scalar(
         Node::Global(value) => Ok(global_scalar(alloc, p, *value)?),
         Node::Call(f, parts) => {
             let arguments = argument_scalars(alloc, p, e, parts.as_slice(), names)?;
-            let mut inner = paired(alloc, p.params(*f), arguments.as_slice())?;
-            Ok(scalar(alloc, p, p.body(*f), &mut inner)?)
+            let body = p.body(*f);
+            Ok(called_scalar(alloc, p, p.params(*f), body, arguments.as_slice())?)
         }
         Node::Block(binds, value) => {
             let outer = names.len();
@@ -108,6 +108,22 @@ fn scalar(
         }
         _ => Ok(Scalar::Sound),
     }
+}
+
+/// What the body of a function is, where its parameters stand for these arguments.
+#[cycle(scalar)]
+fn called_scalar(
+    alloc: Global,
+    p: &Program,
+    params: &[NameId],
+    body: ExprId,
+    arguments: &[Scalar],
+) -> Result<Scalar, AllocError>
+    requires { body.0 < length p.now.nodes }
+    ensures { IfOk result (λ s. s ≡ scalar_of p.now body.0 (zip params.now arguments.now)) }
+{
+    let mut inner = paired(alloc, params, arguments)?;
+    scalar(alloc, p, body, &mut inner)
 }
 
 /// The value of a global variable, as it is kept, or computed where it is not.

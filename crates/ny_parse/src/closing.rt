@@ -1,8 +1,8 @@
-ghost use Rattle.std.specs.Prelude.{◌≡◌, ◌∷◌, ◌++◌, [], min, IfOk, Some};
+ghost use Rattle.std.specs.Prelude.{◌≡◌, ◌∷◌, ◌++◌, [], min, IfOk, OnOk, Some};
 ghost use Rattle.ny_syntax.specs.declared.tree.Decl.TheVariants as decl;
 ghost use Rattle.ny_parse.specs.Reading.{Goes, outside, whole_next, named_next, operator_next, settled, group_next, argument_next, test_next, chosen_next, otherwise_next, value_next, block_next, returned_next, closed, close_next};
 
-use crate::declarations::unexpected;
+use crate::declarations::{refused, unexpected};
 use crate::fault::ParseFault;
 use crate::frame::{Frame, Label, Measured};
 use crate::levels::{left_least, level_of, right_least};
@@ -23,7 +23,7 @@ impl Reader {
             TokenKind::Sign(Mark::Close) => Ok(State::Whole {
                 whole: grouped(inner),
             }),
-            _ => Err(unexpected(token)),
+            _ => Err(refused(token, inner)),
         }
     }
 
@@ -73,7 +73,7 @@ impl Reader {
                 self.stack.push(Frame::Chosen { start, test })?;
                 Ok(State::Before)
             }
-            _ => Err(unexpected(token)),
+            _ => Err(refused(token, test)),
         }
     }
 
@@ -97,7 +97,7 @@ impl Reader {
                 })?;
                 Ok(State::Before)
             }
-            _ => Err(unexpected(token)),
+            _ => Err(refused(token, (test, chosen))),
         }
     }
 
@@ -129,8 +129,18 @@ impl Reader {
                 })?;
                 Ok(State::Before)
             }
-            _ => Err(unexpected(token)),
+            _ => Err(refused(token, binds)),
         }
+    }
+
+    /// Goes on with what was read, where the construct round it does not end with it.
+    fn put_back<T: Drop>(&mut self, frame: Frame, read: T) -> Result<T, AllocError>
+        ensures read { IfOk result (λ x. x ≡ read) }
+        ensures stack { OnOk result (self.new.stack ≡ frame ∷ self.old.stack) }
+        ensures decls { self.new.decls ≡ self.old.decls }
+    {
+        self.stack.push(frame)?;
+        Ok(read)
     }
 
     /// A whole block is a function's body, or an expression.
@@ -149,7 +159,7 @@ impl Reader {
                 Ok(State::Between)
             }
             Some(frame) => {
-                self.stack.push(frame)?;
+                let whole = self.put_back(frame, whole)?;
                 Ok(State::Whole { whole })
             }
             None => Ok(State::Whole { whole }),
@@ -173,7 +183,7 @@ impl Reader {
             TokenKind::Sign(Mark::Close) => Ok(State::Whole {
                 whole: conditional(alloc, start, test, chosen, otherwise)?,
             }),
-            _ => Err(unexpected(token)),
+            _ => Err(refused(token, (test, chosen, otherwise))),
         }
     }
 
@@ -220,7 +230,7 @@ impl Reader {
     {
         match token.kind {
             TokenKind::Reserved(Word::End) => Ok(self.after_block(whole)?),
-            _ => Err(unexpected(token)),
+            _ => Err(refused(token, whole)),
         }
     }
 
@@ -270,7 +280,7 @@ impl Reader {
                 let made = block(alloc, start, binds, spare, whole)?;
                 self.after_returned(token, made)
             }
-            _ => Err(unexpected(token)),
+            frame => Err(refused(token, (whole, frame))),
         }
     }
 
@@ -286,7 +296,7 @@ impl Reader {
     {
         match self.stack.pop() {
             Some(frame) => self.close(alloc, token, whole, frame),
-            None => Err(unexpected(token)),
+            None => Err(refused(token, whole)),
         }
     }
 
@@ -329,8 +339,7 @@ impl Reader {
             match self.stack.pop() {
                 Some(Frame::Right { left, operator }) => {
                     if next >= right_least(operator.kind) {
-                        self.stack.push(Frame::Right { left, operator })?;
-                        return Ok(whole);
+                        return Ok(self.put_back(Frame::Right { left, operator }, whole)?);
                     }
                     whole = binary(alloc, left, operator, whole)?;
                 }
@@ -338,8 +347,7 @@ impl Reader {
                     whole = prefixed(alloc, sign, whole)?;
                 }
                 Some(frame) => {
-                    self.stack.push(frame)?;
-                    return Ok(whole);
+                    return Ok(self.put_back(frame, whole)?);
                 }
                 None => return Ok(whole),
             }
@@ -376,7 +384,7 @@ impl Reader {
         ensures { Goes result token.from self.new (named_next token.kind token name self.old.stack self.old.decls) }
     {
         match token.kind {
-            TokenKind::Sign(Mark::Open) => self.begin_call(token, name),
+            TokenKind::Sign(Mark::Open) => self.begin_with(token, State::CallOpen { name }),
             _ => self.after_whole(alloc, token, named(name)),
         }
     }

@@ -17,6 +17,13 @@ pub fn unexpected(token: Token) -> ParseFault
     ParseFault::At { at: token.from }
 }
 
+/// The same, with all that was read before the token and is given up with it.
+pub fn refused<T: Drop>(token: Token, _read: T) -> ParseFault
+    ensures { result ≡ ParseFault.At token.from }
+{
+    unexpected(token)
+}
+
 /// After `define`.
 #[tactic(auto, unfolding(crate::specs::Reading::define_next))]
 pub fn after_define(token: Token) -> Result<State, ParseFault>
@@ -74,7 +81,7 @@ pub fn after_params_open(
             Ok(State::ParamsName { name, params })
         }
         TokenKind::Sign(Mark::Close) => Ok(State::ParamsClose { name, params }),
-        _ => Err(unexpected(token)),
+        _ => Err(refused(token, (name, params))),
     }
 }
 
@@ -97,7 +104,7 @@ pub fn after_params_comma(
             params.push(param(alloc, text, token)?)?;
             Ok(State::ParamsName { name, params })
         }
-        _ => Err(unexpected(token)),
+        _ => Err(refused(token, (name, params))),
     }
 }
 

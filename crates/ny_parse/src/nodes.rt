@@ -113,6 +113,16 @@ pub fn prefixed(alloc: Global, sign: Token, inner: Measured) -> Result<Measured,
     })
 }
 
+/// Two values on the heap.
+fn two_boxed<T: Drop>(alloc: Global, a: T, b: T) -> Result<(Boxed<T>, Boxed<T>), AllocError>
+    ensures first { IfOk result (λ boxed. boxed.0 ≡ a) }
+    ensures second { IfOk result (λ boxed. boxed.1 ≡ b) }
+{
+    let a = Boxed::new(alloc, a)?;
+    let b = Boxed::new(alloc, b)?;
+    Ok((a, b))
+}
+
 pub fn binary(
     alloc: Global,
     left: Measured,
@@ -122,12 +132,11 @@ pub fn binary(
     ensures { IfOk result (λ x. x ≡ binary_of left operator right) }
 {
     let spare = lesser(left.spare, right.spare).saturating_sub(1);
-    let a = Boxed::new(alloc, left.expr)?;
-    let b = Boxed::new(alloc, right.expr)?;
+    let sides = two_boxed(alloc, left.expr, right.expr)?;
     Ok(Measured {
         expr: Expr {
             at: operator.from,
-            form: Form::Binary(levels::operator_of(operator.kind), a, b),
+            form: Form::Binary(levels::operator_of(operator.kind), sides.0, sides.1),
         },
         spare,
         level: levels::level_of(operator.kind),
@@ -142,14 +151,29 @@ pub fn call(name: Label, arguments: Items<Expr>, spare: u32) -> Measured
     operand(name.at, Form::Call(name.name, arguments), around)
 }
 
+/// Three values on the heap.
+fn three_boxed<T: Drop>(
+    alloc: Global,
+    a: T,
+    b: T,
+    c: T,
+) -> Result<(Boxed<T>, Boxed<T>, Boxed<T>), AllocError>
+    ensures first { IfOk result (λ boxed. boxed.0 ≡ a) }
+    ensures second { IfOk result (λ boxed. boxed.1 ≡ b) }
+    ensures third { IfOk result (λ boxed. boxed.2 ≡ c) }
+{
+    let a = Boxed::new(alloc, a)?;
+    let b = Boxed::new(alloc, b)?;
+    let c = Boxed::new(alloc, c)?;
+    Ok((a, b, c))
+}
+
 /// The form of an `#if` of these parts.
 fn choice(alloc: Global, test: Expr, chosen: Expr, otherwise: Expr) -> Result<Form, AllocError>
     ensures { IfOk result (λ form. form ≡ forms.If test chosen otherwise) }
 {
-    let a = Boxed::new(alloc, test)?;
-    let b = Boxed::new(alloc, chosen)?;
-    let c = Boxed::new(alloc, otherwise)?;
-    Ok(Form::If(a, b, c))
+    let parts = three_boxed(alloc, test, chosen, otherwise)?;
+    Ok(Form::If(parts.0, parts.1, parts.2))
 }
 
 pub fn conditional(

@@ -1,10 +1,9 @@
 ghost use Rattle.std.specs.Prelude.{◌≡◌, ◌≤◌, ◌∷◌, length};
 ghost use Rattle.ny_syntax.specs.Grammar.{height_limit};
 ghost use Rattle.ny_parse.specs.Reading.{Goes, Tells, goes, deeper, is_full, opening_next, operand_next, call_open_next, if_next, begin_next, binds_next, bind_name_next, divided_next};
-ghost use Rattle.ny_parse.specs.declared.frame.Frame.TheVariants as frames;
-ghost use Rattle.ny_parse.specs.declared.state.State.TheVariants as states;
+ghost use Rattle.ny_parse.specs.declared.state.State.TheVariants.{Before};
 
-use crate::declarations::unexpected;
+use crate::declarations::{refused, unexpected};
 use crate::fault::ParseFault;
 use crate::frame::{Frame, Label, Measured};
 use crate::nodes::{HEIGHT_LIMIT, binary, call, label, number};
@@ -54,7 +53,7 @@ pub fn after_divided(
         TokenKind::Number(value) => Ok(State::Whole {
             whole: binary(alloc, left, operator, number(token, value))?,
         }),
-        _ => Err(unexpected(token)),
+        _ => Err(refused(token, left)),
     }
 }
 
@@ -66,56 +65,25 @@ impl Reader {
         self.stack.len() >= HEIGHT_LIMIT as usize
     }
 
-    /// Goes into brackets, where there is room for them.
-    fn begin_group(&mut self, token: Token) -> Result<State, ParseFault>
-        ensures { Goes result token.from self.new (deeper self.old.stack (goes states.Before (frames.Group ∷ self.old.stack) self.old.decls)) }
+    /// Goes into a construct whose height is 2 or more, where there is room for it.
+    fn go_into(&mut self, token: Token, frame: Frame) -> Result<State, ParseFault>
+        ensures { Goes result token.from self.new (deeper self.old.stack (goes Before (frame ∷ self.old.stack) self.old.decls)) }
     {
         if self.is_full() {
-            return Err(unexpected(token));
+            return Err(refused(token, frame));
         }
-        self.stack.push(Frame::Group)?;
+        self.stack.push(frame)?;
         Ok(State::Before)
     }
 
-    /// Goes into what a sign stands before, where there is room for it.
-    fn begin_prefix(&mut self, token: Token) -> Result<State, ParseFault>
-        ensures { Goes result token.from self.new (deeper self.old.stack (goes states.Before (frames.Prefix token ∷ self.old.stack) self.old.decls)) }
+    /// The state after a token that begins a construct whose height is 2 or more, where there is room for it.
+    pub fn begin_with(&mut self, token: Token, state: State) -> Result<State, ParseFault>
+        ensures { Goes result token.from self.new (deeper self.old.stack (goes state self.old.stack self.old.decls)) }
     {
         if self.is_full() {
-            return Err(unexpected(token));
+            return Err(refused(token, state));
         }
-        self.stack.push(Frame::Prefix { sign: token })?;
-        Ok(State::Before)
-    }
-
-    /// Begins an `#if`, where there is room for it.
-    fn begin_if(&mut self, token: Token) -> Result<State, ParseFault>
-        ensures { Goes result token.from self.new (deeper self.old.stack (goes (states.If token) self.old.stack self.old.decls)) }
-    {
-        if self.is_full() {
-            return Err(unexpected(token));
-        }
-        Ok(State::If { start: token })
-    }
-
-    /// Begins a block, where there is room for it.
-    fn begin_block(&mut self, token: Token) -> Result<State, ParseFault>
-        ensures { Goes result token.from self.new (deeper self.old.stack (goes (states.Begin token) self.old.stack self.old.decls)) }
-    {
-        if self.is_full() {
-            return Err(unexpected(token));
-        }
-        Ok(State::Begin { start: token })
-    }
-
-    /// Begins a call, where there is room for it.
-    pub fn begin_call(&mut self, token: Token, name: Label) -> Result<State, ParseFault>
-        ensures { Goes result token.from self.new (deeper self.old.stack (goes (states.CallOpen name) self.old.stack self.old.decls)) }
-    {
-        if self.is_full() {
-            return Err(unexpected(token));
-        }
-        Ok(State::CallOpen { name })
+        Ok(state)
     }
 
     /// What an expression begins with, but for a number.
@@ -129,11 +97,13 @@ impl Reader {
             TokenKind::Name => Ok(State::Named {
                 name: label(alloc, text, token)?,
             }),
-            TokenKind::Sign(Mark::Open) => self.begin_group(token),
-            TokenKind::Sign(Mark::Minus) => self.begin_prefix(token),
-            TokenKind::Sign(Mark::Not) => self.begin_prefix(token),
-            TokenKind::If => self.begin_if(token),
-            TokenKind::Reserved(Word::Begin) => self.begin_block(token),
+            TokenKind::Sign(Mark::Open) => self.go_into(token, Frame::Group),
+            TokenKind::Sign(Mark::Minus) => self.go_into(token, Frame::Prefix { sign: token }),
+            TokenKind::Sign(Mark::Not) => self.go_into(token, Frame::Prefix { sign: token }),
+            TokenKind::If => self.begin_with(token, State::If { start: token }),
+            TokenKind::Reserved(Word::Begin) => {
+                self.begin_with(token, State::Begin { start: token })
+            }
             _ => Err(unexpected(token)),
         }
     }

@@ -17,6 +17,16 @@ use ny_syntax::{Decl, Expr, Param, Token, Tree};
 use sqlite_items::Items;
 use std::alloc::{AllocError, Global};
 
+/// The fault of a text that ends too early, with all that was read and is given up with it.
+fn ends_early<T: Drop>(text: &[u8], _read: T) -> ParseFault
+    requires { length text.now ≤ 1048576 }
+    ensures { result ≡ ParseFault.At (length text.now) }
+{
+    ParseFault::At {
+        at: text.len() as u32,
+    }
+}
+
 impl Reader {
     fn new(alloc: Global) -> Reader
         ensures { result ≡ record { stack = []; decls = [] } }
@@ -86,9 +96,7 @@ impl Reader {
         let mut reader = self;
         match reader.stack.pop() {
             Some(frame) => reader.ended(text, whole, frame),
-            None => Err(ParseFault::At {
-                at: text.len() as u32,
-            }),
+            None => Err(ends_early(text, (reader, whole))),
         }
     }
 
@@ -113,9 +121,7 @@ impl Reader {
             State::Between => Ok(self.silent(text)),
             State::Named { name } => self.whole_end(alloc, text, named(name)),
             State::Whole { whole } => self.whole_end(alloc, text, whole),
-            _ => Err(ParseFault::At {
-                at: text.len() as u32,
-            }),
+            state => Err(ends_early(text, (self, state))),
         }
     }
 }

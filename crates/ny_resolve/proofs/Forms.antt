@@ -1,5 +1,5 @@
 -- The faults of an expression, by its form.
-use Rattle.std.proofs.Common.{◌≡◌, Bool, true, false, List, [], ◌++◌, map, refl, ap, sym, ◌∙◌}
+use Rattle.std.proofs.Common.{◌≡◌, Bool, true, false, List, [], ◌++◌, refl, ap, sym, ◌∙◌}
 use Rattle.std.specs.Prelude.{if◌then◌else◌, ℤ}
 use Rattle.ny_syntax.specs.declared.tree.Name.{Name}
 use Rattle.ny_syntax.specs.declared.tree.Expr.{Expr}
@@ -7,7 +7,7 @@ use Rattle.ny_syntax.specs.declared.tree.Bind.{Bind}
 use Rattle.ny_syntax.specs.declared.tree.BinOp.{BinOp}
 use Rattle.ny_syntax.specs.declared.tree.Form.{Form}
 use Rattle.ny_syntax.specs.declared.tree.Form.TheVariants as forms
-use Rattle.ny_syntax.specs.declared.tree.Form.TheVariants.{rolls-Number, rolls-Call, rolls-If, rolls-Block, rolls-Binary}
+use Rattle.ny_syntax.specs.declared.tree.Form.TheVariants.{rolls-Number, rolls-Call, rolls-If, rolls-Binary}
 use Rattle.ny_syntax.specs.declared.tree.Form.TheFolds.{fold-Form, fold-roll-Form, fold_out-Form, fold_out-Expr, fold_out-Bind}
 use Rattle.ny_syntax.specs.declared.tree.Form.TheViews.{roll-Form, out-Form, roll-out-Form}
 use Rattle.ny_syntax.specs.declared.tree.Form.TheOpen.{Form-F}
@@ -15,7 +15,7 @@ use Rattle.ny_resolve.specs.declared.fault.CheckWhy.TheVariants as why
 use Rattle.ny_resolve.specs.Faults.{fault_if}
 use Rattle.ny_resolve.specs.Literals.{value_of_shape, is_zero}
 use Rattle.ny_resolve.specs.Names.{Scope}
-use Rattle.ny_resolve.specs.Reading.{Formed, BindReading, Reading, ReadPart, form_reading, bind_reading, expr_reading, reading, reading_of_bind, is_division, binary_read, read_binds}
+use Rattle.ny_resolve.specs.Reading.{Formed, BindReading, Reading, ReadPart, form_reading, bind_reading, expr_reading, reading, reading_of_bind, is_division, binary_read}
 
 pub faults-Number : (e : Expr) (v : ℤ) (s : Scope) → e.form ≡ forms.Number v → ((reading e).read s).faults ≡ []
 faults-Number e v s is = rw (fold_out-Expr Formed BindReading Reading form_reading bind_reading expr_reading e, is, ← rolls-Number v, fold-roll-Form Formed BindReading Reading form_reading bind_reading expr_reading (Form-F.Number v))
@@ -23,10 +23,6 @@ faults-Number e v s is = rw (fold_out-Expr Formed BindReading Reading form_readi
 pub faults-If : (e c a b : Expr) (s : Scope) → e.form ≡ forms.If c a b
     → ((reading e).read s).faults ≡ ((reading c).read s).faults ++ (((reading a).read s).faults ++ ((reading b).read s).faults)
 faults-If e c a b s is = rw (fold_out-Expr Formed BindReading Reading form_reading bind_reading expr_reading e, is, ← rolls-If c a b, fold-roll-Form Formed BindReading Reading form_reading bind_reading expr_reading (Form-F.If c a b))
-
-pub faults-Block : (e : Expr) (bs : List Bind) (v : Expr) (s : Scope) → e.form ≡ forms.Block bs v
-    → ((reading e).read s).faults ≡ (read_binds (map reading_of_bind bs) [] s).faults ++ ((reading v).read (read_binds (map reading_of_bind bs) [] s).scope).faults
-faults-Block e bs v s is = rw (fold_out-Expr Formed BindReading Reading form_reading bind_reading expr_reading e, is, ← rolls-Block bs v, fold-roll-Form Formed BindReading Reading form_reading bind_reading expr_reading (Form-F.Block bs v))
 
 read-Binary : (e : Expr) (o : BinOp) (a b : Expr) (s : Scope) → e.form ≡ forms.Binary o a b → (reading e).read s ≡ binary_read e.at o (reading a) (reading b) s
 read-Binary e o a b s is = rw (fold_out-Expr Formed BindReading Reading form_reading bind_reading expr_reading e, is, ← rolls-Binary o a b, fold-roll-Form Formed BindReading Reading form_reading bind_reading expr_reading (Form-F.Binary o a b))

@@ -65,6 +65,9 @@ pub total-push : {A : Type 0} (f : A → ℕ) (xs : List A) (x : A) → total (m
 total-push f [] x = omega arith
 total-push f (y ∷ xs) x = omega (arith, total-push f xs x)
 
+pub part_pushed : (ps all : List Part) (q : Part) → all ≡ ps ++ q ∷ [] → total (map size_of_part all) ≡ total (map size_of_part ps) + size_of_part q
+part_pushed ps all q is = ap (λ (xs : List Part). total (map size_of_part xs)) is ∙ total-push size_of_part ps q
+
 -- one more is read, which is no larger than what it is read from
 pub read_step : {A B : Type 0} (f : A → ℕ) (g : B → ℕ) (done all : List A) (now rest : List B) (x : A) (e : B) (n : ℕ) → all ≡ done ++ x ∷ [] → now ≡ e ∷ rest → f x ≤ g e → total (map f done) + total (map g now) ≤ n → total (map f all) + total (map g rest) ≤ n
 read_step f g done all now rest x e n pushed here small so_far =
@@ -94,5 +97,7 @@ read-small tree decls ds (Ok t) is each same played =
 read-small tree decls ds (Err e) is each same played = tt
 
 pub ruleset last_small = (last-small)
+
+pub ruleset block_sizes = (size-Block)
 
 pub ruleset term_sizes = (size-part, size-Number, size-Local, size-Global, size-Call, size-Block, size-Apply, size-Over, size-Repeat, size-Nameless, size-Warp, size-Rate)

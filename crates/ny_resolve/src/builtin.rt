@@ -95,24 +95,31 @@ pub enum Arity {
     Some,
 }
 
+/// Whether a name is this word.
+fn is(x: &[u8], word: &[u8]) -> bool
+    ensures { result ≡ bytes_eq x.now word.now }
+{
+    x == word
+}
+
 fn leaf_named(x: &[u8]) -> Option<Operator>
     ensures { result ≡ leaf_named x.now }
 {
-    if x == b"const".as_slice() {
+    if is(x, b"const") {
         Some(Operator::Const)
-    } else if x == b"osc".as_slice() {
+    } else if is(x, b"osc") {
         Some(Operator::Osc)
-    } else if x == b"hzosc".as_slice() {
+    } else if is(x, b"hzosc") {
         Some(Operator::HzOsc)
-    } else if x == b"lfo".as_slice() {
+    } else if is(x, b"lfo") {
         Some(Operator::Lfo)
-    } else if x == b"noise".as_slice() {
+    } else if is(x, b"noise") {
         Some(Operator::Noise)
-    } else if x == b"s-rest".as_slice() {
+    } else if is(x, b"s-rest") {
         Some(Operator::Rest)
-    } else if x == b"ramp".as_slice() {
+    } else if is(x, b"ramp") {
         Some(Operator::Ramp)
-    } else if x == b"pwl".as_slice() {
+    } else if is(x, b"pwl") {
         Some(Operator::Pwl)
     } else {
         None
@@ -122,19 +129,19 @@ fn leaf_named(x: &[u8]) -> Option<Operator>
 fn filter_named(x: &[u8]) -> Option<Operator>
     ensures { result ≡ filter_named x.now }
 {
-    if x == b"s-max".as_slice() {
+    if is(x, b"s-max") {
         Some(Operator::Max)
-    } else if x == b"s-min".as_slice() {
+    } else if is(x, b"s-min") {
         Some(Operator::Min)
-    } else if x == b"s-abs".as_slice() {
+    } else if is(x, b"s-abs") {
         Some(Operator::Abs)
-    } else if x == b"scale".as_slice() {
+    } else if is(x, b"scale") {
         Some(Operator::Scale)
-    } else if x == b"onepole".as_slice() {
+    } else if is(x, b"onepole") {
         Some(Operator::OnePole)
-    } else if x == b"biquad".as_slice() {
+    } else if is(x, b"biquad") {
         Some(Operator::Biquad)
-    } else if x == b"comb".as_slice() {
+    } else if is(x, b"comb") {
         Some(Operator::Comb)
     } else {
         None
@@ -144,23 +151,23 @@ fn filter_named(x: &[u8]) -> Option<Operator>
 fn change_named(x: &[u8]) -> Option<Operator>
     ensures { result ≡ change_named x.now }
 {
-    if x == b"cue".as_slice() {
+    if is(x, b"cue") {
         Some(Operator::Cue)
-    } else if x == b"sim".as_slice() {
+    } else if is(x, b"sim") {
         Some(Operator::Sim)
-    } else if x == b"seq".as_slice() {
+    } else if is(x, b"seq") {
         Some(Operator::Seq)
-    } else if x == b"at".as_slice() {
+    } else if is(x, b"at") {
         Some(Operator::At)
-    } else if x == b"stretch".as_slice() {
+    } else if is(x, b"stretch") {
         Some(Operator::Stretch)
-    } else if x == b"loud".as_slice() {
+    } else if is(x, b"loud") {
         Some(Operator::Loud)
-    } else if x == b"sustain".as_slice() {
+    } else if is(x, b"sustain") {
         Some(Operator::Sustain)
-    } else if x == b"transpose".as_slice() {
+    } else if is(x, b"transpose") {
         Some(Operator::Transpose)
-    } else if x == b"vector".as_slice() {
+    } else if is(x, b"vector") {
         Some(Operator::Vector)
     } else {
         None
@@ -170,15 +177,15 @@ fn change_named(x: &[u8]) -> Option<Operator>
 fn special_named(x: &[u8]) -> Option<Builtin>
     ensures { result ≡ special_named x.now }
 {
-    if x == b"simrep".as_slice() {
+    if is(x, b"simrep") {
         Some(Builtin::Repeat(Order::Together))
-    } else if x == b"seqrep".as_slice() {
+    } else if is(x, b"seqrep") {
         Some(Builtin::Repeat(Order::InTurn))
-    } else if x == b"warp".as_slice() {
+    } else if is(x, b"warp") {
         Some(Builtin::Warp)
-    } else if x == b"sound-srate-abs".as_slice() {
+    } else if is(x, b"sound-srate-abs") {
         Some(Builtin::Rate(Rated::Sound))
-    } else if x == b"control-srate-abs".as_slice() {
+    } else if is(x, b"control-srate-abs") {
         Some(Builtin::Rate(Rated::Control))
     } else {
         None
@@ -207,7 +214,7 @@ pub fn built_in(x: &[u8]) -> Option<Builtin>
 pub fn is_map(x: &[u8]) -> bool
     ensures { result ≡ is_map x.now }
 {
-    x == b"map".as_slice()
+    is(x, b"map")
 }
 
 fn operator_arity(operator: Operator) -> Arity

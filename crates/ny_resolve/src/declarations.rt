@@ -11,7 +11,8 @@ ghost use Rattle.ny_resolve.specs.Declarations.{declare, declare_faults, declare
 use crate::builtin::built_in;
 use crate::fault::{CheckWhy, Fault, noted};
 use crate::names::{Called, Names, function_named, variable_named};
-use crate::reading::{Read, note_again, read_expr};
+use crate::parts::Read;
+use crate::reading::{note_again, read_expr};
 use crate::term::{Declared, NameId, Part};
 use crate::word::Word;
 use indexmap::IndexMap;

@@ -1,84 +1,36 @@
-ghost use Rattle.std.specs.Prelude.{◌≡◌, ◌≤◌, ◌+◌, IfOk, OnOk, map, [], ◌∷◌, length, take, not, ℕ, pos, if◌then◌else◌};
+ghost use Rattle.std.specs.Prelude.{◌≡◌, ◌≤◌, ◌+◌, IfOk, OnOk, map, [], ◌∷◌, ◌++◌, length, take, ℕ};
 ghost use Rattle.ny_syntax.specs.Sizes.{total, size_of, size_of_bind};
-ghost use Rattle.ny_resolve.specs.Sizes.{size_of_part, size_of_term, size_of_bound};
-ghost use Rattle.ny_resolve.specs.declared.term.Term.TheVariants as term;
+ghost use Rattle.ny_resolve.specs.Sizes.{size_of_part, size_of_bound};
 ghost use Rattle.ny_resolve.specs.declared.names.Names.{Names as NamesOf};
 ghost use Rattle.ny_resolve.specs.Faults.{earliest_after};
-ghost use Rattle.ny_resolve.specs.Builtins.{builtin_of, arity_of, fits};
-ghost use Rattle.ny_resolve.specs.Names.{scope_of, local_of, with_local, again_faults, seen_after};
-ghost use Rattle.ny_resolve.specs.Reading.{reading, reading_of_bind, part_at, value_named, with_counter, argument_scope, argument_read, arguments_read, first_counter, first_place, builtin_term, builtin_called, function_called, called, read_parts, read_binds, operator_of, prefix_operator, is_division};
+ghost use Rattle.ny_resolve.specs.Builtins.{builtin_of};
+ghost use Rattle.ny_resolve.specs.Names.{scope_of, local_of, again_faults, seen_after};
+ghost use Rattle.ny_resolve.specs.Reading.{reading, reading_of_bind, value_named, with_counter, argument_read, arguments_read, first_counter, first_place, called, read_parts, read_binds, block_read};
 
-use crate::builtin::{Builtin, Operator, Relation, built_in, takes};
+use crate::builtin::{Builtin, Operator, built_in, takes};
 use crate::calls::{
-    argument_noted, builtin_term, call_noted, first_counter, first_place, function_term,
-    global_term, is_counter, is_warp_map, no_part, sees_counter,
+    argument_noted, call_noted, first_counter, first_place, function_term, global_term, is_counter,
+    is_warp_map, no_part, sees_counter,
 };
 use crate::fault::{CheckWhy, Fault, noted_if};
 use crate::literals::{is_zero, value};
 use crate::names::{Names, function_named, function_noted, variable_named, variable_noted};
+use crate::parts::{
+    Read, applied, blocked, divided, is_division, operator_of, prefix_operator, put, term_if,
+};
 use crate::term::{Bound, NameId, Part, Term};
 use crate::word::Word;
 use indexmap::IndexMap;
 use ny_scope::{Key, Scope};
-use ny_syntax::{BinOp, Bind, Expr, Form, Name, PreOp};
-use sqlite_items::{Boxed, Items};
+use ny_syntax::{Bind, Expr, Form, Name};
+use sqlite_items::Items;
 use std::alloc::{AllocError, Global};
-
-/// What was read, and the first of the faults so far.
-#[derive(Drop)]
-pub struct Read {
-    pub part: Part,
-    pub first: Option<Fault>,
-}
 
 /// Parts that were read, and the first of the faults so far.
 #[derive(Drop)]
 struct ReadMany {
     parts: Items<Part>,
     first: Option<Fault>,
-}
-
-/// Binds that were read, and the first of the faults so far.
-#[derive(Drop)]
-struct ReadBlock {
-    binds: Items<Bound>,
-    first: Option<Fault>,
-}
-
-fn operator_of(operator: BinOp) -> Operator
-    ensures { result ≡ operator_of operator }
-{
-    match operator {
-        BinOp::Or => Operator::Or,
-        BinOp::And => Operator::And,
-        BinOp::Eq => Operator::Compare(Relation::Eq),
-        BinOp::Ne => Operator::Compare(Relation::Ne),
-        BinOp::Lt => Operator::Compare(Relation::Lt),
-        BinOp::Gt => Operator::Compare(Relation::Gt),
-        BinOp::Le => Operator::Compare(Relation::Le),
-        BinOp::Ge => Operator::Compare(Relation::Ge),
-        BinOp::Add => Operator::Add,
-        BinOp::Sub => Operator::Sub,
-        BinOp::Mul => Operator::Mul,
-        BinOp::Div => Operator::Mul,
-        BinOp::At => Operator::Placed,
-        BinOp::Stretch => Operator::Stretched,
-    }
-}
-
-fn prefix_operator(operator: PreOp) -> Operator
-    ensures { result ≡ prefix_operator operator }
-{
-    match operator {
-        PreOp::Minus => Operator::Neg,
-        PreOp::Not => Operator::Not,
-    }
-}
-
-fn is_division(operator: BinOp) -> bool
-    ensures { result ≡ is_division operator }
-{
-    matches!(operator, BinOp::Div)
 }
 
 /// Binds a repeat's counter, if it has one, at this place.
@@ -132,9 +84,22 @@ fn name_read<'t>(
     }
 }
 
+/// Notes a name of a list, and whether the list has it already.
+pub(crate) fn note_again<'t>(
+    seen: &mut IndexMap<Word<'t>, NameId>,
+    word: Word<'t>,
+    at: u32,
+    first: Option<Fault>,
+) -> Result<Option<Fault>, AllocError>
+    ensures seen { OnOk result (seen.new.entries ≡ seen_after seen.old.entries word.entry at) }
+    ensures first { IfOk result (λ f. f ≡ earliest_after first (again_faults seen.old.entries word.entry at)) }
+{
+    let before = seen.insert(word, NameId(at))?;
+    Ok(noted_if(before.is_some(), CheckWhy::Redefined, at, first))
+}
+
 /// The term that an expression is, and the first of the faults before and in it.
 #[cycle(read)]
-#[tactic(auto, using(crate::proofs::Earliest::told, crate::proofs::PartSizes::term_sizes))]
 pub(crate) fn read_expr<'t>(
     alloc: Global,
     names: &Names<'t>,
@@ -143,6 +108,28 @@ pub(crate) fn read_expr<'t>(
     e: &'t Expr,
     first: Option<Fault>,
 ) -> Result<Read, AllocError>
+    ensures part { IfOk result (λ r. r.part ≡ ((reading e.now).read (scope_of names.now here locals.old)).part) }
+    ensures first { IfOk result (λ r. r.first ≡ earliest_after first ((reading e.now).read (scope_of names.now here locals.old)).faults) }
+    ensures same { OnOk result (locals.new ≡ locals.old) }
+    ensures small { IfOk result (λ r. size_of_part r.part ≤ size_of e.now) }
+{
+    let mut operands = Items::new(alloc);
+    read_form(alloc, names, here, locals, &mut operands, e, first)
+}
+
+/// The same, with an empty list for the operands on the way. No step below has a part of its own that a fault of memory would drop.
+#[cycle(read)]
+#[tactic(auto, using(crate::proofs::Earliest::told, crate::proofs::PartSizes::term_sizes, crate::proofs::Operands::listed))]
+fn read_form<'t>(
+    alloc: Global,
+    names: &Names<'t>,
+    here: u32,
+    locals: &mut Scope<Word<'t>, NameId>,
+    operands: &mut Items<Part>,
+    e: &'t Expr,
+    first: Option<Fault>,
+) -> Result<Read, AllocError>
+    requires { operands.old ≡ [] }
     ensures part { IfOk result (λ r. r.part ≡ ((reading e.now).read (scope_of names.now here locals.old)).part) }
     ensures first { IfOk result (λ r. r.first ≡ earliest_after first ((reading e.now).read (scope_of names.now here locals.old)).faults) }
     ensures same { OnOk result (locals.new ≡ locals.old) }
@@ -168,89 +155,59 @@ pub(crate) fn read_expr<'t>(
             first,
         )?),
         Form::If(c, a, b) => {
-            let c = read_expr(alloc, names, here, locals, c.get(), first)?;
-            let a = read_expr(alloc, names, here, locals, a.get(), c.first)?;
-            let b = read_expr(alloc, names, here, locals, b.get(), a.first)?;
-            let parts = three(alloc, c.part, a.part, b.part)?;
-            Ok(applied(e.at, Operator::If, parts, b.first))
+            let first = read_onto(alloc, names, here, locals, operands, c.get(), first)?;
+            let first = read_onto(alloc, names, here, locals, operands, a.get(), first)?;
+            let first = read_onto(alloc, names, here, locals, operands, b.get(), first)?;
+            Ok(applied(alloc, e.at, Operator::If, operands, first))
         }
-        Form::Block(binds, value) => {
-            let outer = locals.len();
-            let binds = read_each_bind(alloc, names, here, locals, binds.as_slice(), first)?;
-            let value = read_expr(alloc, names, here, locals, value.get(), binds.first)?;
-            locals.leave(outer);
-            Ok(Read {
-                part: Part {
-                    at: e.at,
-                    term: Term::Block(binds.binds, Boxed::new(alloc, value.part)?),
-                },
-                first: value.first,
-            })
-        }
+        Form::Block(binds, value) => Ok(read_block(
+            alloc,
+            names,
+            here,
+            locals,
+            e.at,
+            binds.as_slice(),
+            value.get(),
+            first,
+        )?),
         Form::Binary(operator, a, b) => {
             if is_division(*operator) {
                 let by = value(b.get());
                 let first = noted_if(is_zero(by), CheckWhy::ZeroDivisor, e.at, first);
                 let a = read_expr(alloc, names, here, locals, a.get(), first)?;
-                Ok(Read {
-                    part: Part {
-                        at: e.at,
-                        term: Term::Over(Boxed::new(alloc, a.part)?, by),
-                    },
-                    first: a.first,
-                })
+                Ok(divided(alloc, e.at, a, by)?)
             } else {
-                let a = read_expr(alloc, names, here, locals, a.get(), first)?;
-                let b = read_expr(alloc, names, here, locals, b.get(), a.first)?;
-                let parts = two(alloc, a.part, b.part)?;
-                Ok(applied(e.at, operator_of(*operator), parts, b.first))
+                let first = read_onto(alloc, names, here, locals, operands, a.get(), first)?;
+                let first = read_onto(alloc, names, here, locals, operands, b.get(), first)?;
+                Ok(applied(alloc, e.at, operator_of(*operator), operands, first))
             }
         }
         Form::Prefix(operator, a) => {
-            let a = read_expr(alloc, names, here, locals, a.get(), first)?;
-            let parts = one(alloc, a.part)?;
-            Ok(applied(e.at, prefix_operator(*operator), parts, a.first))
+            let first = read_onto(alloc, names, here, locals, operands, a.get(), first)?;
+            Ok(applied(alloc, e.at, prefix_operator(*operator), operands, first))
         }
     }
 }
 
-fn one(alloc: Global, a: Part) -> Result<Items<Part>, AllocError>
-    ensures { IfOk result (λ parts. parts ≡ a ∷ []) }
+/// Reads one more expression, behind the parts that were read, and gives the first of the faults before and in it.
+#[cycle(read)]
+fn read_onto<'t>(
+    alloc: Global,
+    names: &Names<'t>,
+    here: u32,
+    locals: &mut Scope<Word<'t>, NameId>,
+    done: &mut Items<Part>,
+    e: &'t Expr,
+    first: Option<Fault>,
+) -> Result<Option<Fault>, AllocError>
+    ensures done { OnOk result (done.new ≡ done.old ++ ((reading e.now).read (scope_of names.now here locals.old)).part ∷ []) }
+    ensures first { IfOk result (λ f. f ≡ earliest_after first ((reading e.now).read (scope_of names.now here locals.old)).faults) }
+    ensures same { OnOk result (locals.new ≡ locals.old) }
+    ensures small { OnOk result (total (map size_of_part done.new) ≤ total (map size_of_part done.old) + size_of e.now) }
 {
-    let mut parts = Items::new(alloc);
-    parts.push(a)?;
-    Ok(parts)
-}
-
-fn two(alloc: Global, a: Part, b: Part) -> Result<Items<Part>, AllocError>
-    ensures { IfOk result (λ parts. parts ≡ a ∷ b ∷ []) }
-{
-    let mut parts = one(alloc, a)?;
-    parts.push(b)?;
-    Ok(parts)
-}
-
-fn three(alloc: Global, a: Part, b: Part, c: Part) -> Result<Items<Part>, AllocError>
-    ensures { IfOk result (λ parts. parts ≡ a ∷ b ∷ c ∷ []) }
-{
-    let mut parts = two(alloc, a, b)?;
-    parts.push(c)?;
-    Ok(parts)
-}
-
-#[tactic(auto, using(crate::proofs::PartSizes::term_sizes))]
-fn applied(at: u32, operator: Operator, parts: Items<Part>, first: Option<Fault>) -> Read
-    ensures part { result.part ≡ part_at at (term.Apply operator parts) }
-    ensures first { result.first ≡ first }
-    ensures size { size_of_part result.part ≡ 1 + total (map size_of_part parts) }
-{
-    Read {
-        part: Part {
-            at,
-            term: Term::Apply(operator, parts),
-        },
-        first,
-    }
+    let read = read_expr(alloc, names, here, locals, e, first)?;
+    put(done, read.part)?;
+    Ok(read.first)
 }
 
 #[cycle(read)]
@@ -293,26 +250,6 @@ fn read_call<'t>(
                 first: read.first,
             })
         }
-    }
-}
-
-/// The term of a call with a right number of arguments.
-#[tactic(auto, using(crate::proofs::PartSizes::term_sizes))]
-fn term_if(
-    alloc: Global,
-    good: bool,
-    builtin: Builtin,
-    arguments: &[Expr],
-    parts: Items<Part>,
-) -> Result<Term, AllocError>
-    requires { good ≡ fits (arity_of builtin) (length parts) }
-    ensures term { IfOk result (λ t. t ≡ (if good then builtin_term builtin (map reading arguments.now) parts else term.Number (pos 0))) }
-    ensures small { IfOk result (λ t. size_of_term t ≤ 1 + total (map size_of_part parts)) }
-{
-    if good {
-        builtin_term(alloc, builtin, arguments, parts)
-    } else {
-        Ok(no_part(0).term)
     }
 }
 
@@ -439,21 +376,55 @@ fn read_arguments<'t>(
     Ok(ReadMany { parts: done, first })
 }
 
-/// Notes a name of a list, and whether the list has it already.
-pub(crate) fn note_again<'t>(
-    seen: &mut IndexMap<Word<'t>, NameId>,
-    word: Word<'t>,
+/// A block, whose names are bound in it alone.
+#[cycle(read)]
+#[tactic(auto, using(crate::proofs::Earliest::told))]
+fn read_block<'t>(
+    alloc: Global,
+    names: &Names<'t>,
+    here: u32,
+    locals: &mut Scope<Word<'t>, NameId>,
     at: u32,
+    binds: &'t [Bind],
+    value: &'t Expr,
     first: Option<Fault>,
-) -> Result<Option<Fault>, AllocError>
-    ensures seen { OnOk result (seen.new.entries ≡ seen_after seen.old.entries word.entry at) }
-    ensures first { IfOk result (λ f. f ≡ earliest_after first (again_faults seen.old.entries word.entry at)) }
+) -> Result<Read, AllocError>
+    ensures part { IfOk result (λ r. r.part ≡ (block_read at (map reading_of_bind binds.now) (reading value.now) (scope_of names.now here locals.old)).part) }
+    ensures first { IfOk result (λ r. r.first ≡ earliest_after first (block_read at (map reading_of_bind binds.now) (reading value.now) (scope_of names.now here locals.old)).faults) }
+    ensures same { OnOk result (locals.new ≡ locals.old) }
+    ensures small { IfOk result (λ r. size_of_part r.part ≤ 1 + (total (map size_of_bind binds.now) + size_of value.now)) }
 {
-    let before = seen.insert(word, NameId(at))?;
-    Ok(noted_if(before.is_some(), CheckWhy::Redefined, at, first))
+    let outer = locals.len();
+    let mut bound = Items::new(alloc);
+    let first = read_binds(alloc, names, here, locals, &mut bound, binds, first)?;
+    let value = read_expr(alloc, names, here, locals, value, first)?;
+    locals.leave(outer);
+    Ok(blocked(alloc, at, bound, value)?)
 }
 
-/// Reads the binds of a block, and leaves their names bound.
+/// Reads the binds of a block into an empty list, and leaves their names bound.
+#[cycle(read)]
+fn read_binds<'t>(
+    alloc: Global,
+    names: &Names<'t>,
+    here: u32,
+    locals: &mut Scope<Word<'t>, NameId>,
+    done: &mut Items<Bound>,
+    binds: &'t [Bind],
+    first: Option<Fault>,
+) -> Result<Option<Fault>, AllocError>
+    requires { done.old ≡ [] }
+    ensures binds { OnOk result (done.new ≡ (read_binds (map reading_of_bind binds.now) [] (scope_of names.now here locals.old)).binds) }
+    ensures bound { OnOk result (scope_of names.now here locals.new ≡ (read_binds (map reading_of_bind binds.now) [] (scope_of names.now here locals.old)).scope) }
+    ensures first { IfOk result (λ f. f ≡ earliest_after first (read_binds (map reading_of_bind binds.now) [] (scope_of names.now here locals.old)).faults) }
+    ensures kept { OnOk result (take (length locals.old) locals.new ≡ locals.old) }
+    ensures small { OnOk result (total (map size_of_bound done.new) ≤ total (map size_of_bind binds.now)) }
+{
+    let mut seen = IndexMap::new(alloc);
+    read_each_bind(alloc, names, here, locals, &mut seen, done, binds, first)
+}
+
+/// The same, with an empty map for the names that the block has bound so far.
 #[cycle(read)]
 #[tactic(auto, using(crate::proofs::Earliest::told, ny_scope::proofs::Kept::kept_more))]
 fn read_each_bind<'t>(
@@ -461,27 +432,29 @@ fn read_each_bind<'t>(
     names: &Names<'t>,
     here: u32,
     locals: &mut Scope<Word<'t>, NameId>,
+    seen: &mut IndexMap<Word<'t>, NameId>,
+    done: &mut Items<Bound>,
     binds: &'t [Bind],
     first: Option<Fault>,
-) -> Result<ReadBlock, AllocError>
-    ensures binds { IfOk result (λ r. r.binds ≡ (read_binds (map reading_of_bind binds.now) [] (scope_of names.now here locals.old)).binds) }
+) -> Result<Option<Fault>, AllocError>
+    requires nothing_seen { seen.old.entries ≡ [] }
+    requires nothing_done { done.old ≡ [] }
+    ensures binds { OnOk result (done.new ≡ (read_binds (map reading_of_bind binds.now) [] (scope_of names.now here locals.old)).binds) }
     ensures bound { OnOk result (scope_of names.now here locals.new ≡ (read_binds (map reading_of_bind binds.now) [] (scope_of names.now here locals.old)).scope) }
-    ensures first { IfOk result (λ r. r.first ≡ earliest_after first (read_binds (map reading_of_bind binds.now) [] (scope_of names.now here locals.old)).faults) }
+    ensures first { IfOk result (λ f. f ≡ earliest_after first (read_binds (map reading_of_bind binds.now) [] (scope_of names.now here locals.old)).faults) }
     ensures kept { OnOk result (take (length locals.old) locals.new ≡ locals.old) }
-    ensures small { IfOk result (λ r. total (map size_of_bound r.binds) ≤ total (map size_of_bind binds.now)) }
+    ensures small { OnOk result (total (map size_of_bound done.new) ≤ total (map size_of_bind binds.now)) }
 {
-    let mut seen = IndexMap::new(alloc);
-    let mut done = Items::new(alloc);
     let mut first = first;
     for bind in binds {
-        first = note_again(&mut seen, Word::of(&bind.name), bind.at, first)?;
+        first = note_again(seen, Word::of(&bind.name), bind.at, first)?;
         let read = read_expr(alloc, names, here, locals, &bind.value, first)?;
         first = read.first;
-        locals.bind(Word::of(&bind.name), NameId(bind.at))?;
         done.push(Bound {
             name: NameId(bind.at),
             value: read.part,
         })?;
+        locals.bind(Word::of(&bind.name), NameId(bind.at))?;
     }
-    Ok(ReadBlock { binds: done, first })
+    Ok(first)
 }

@@ -1,6 +1,7 @@
 ghost use Rattle.std.specs.Prelude.{◌≡◌, ◌<◌, ◌≤◌, [], ◌∷◌, length, map, IfOk, OnOk};
 ghost use Rattle.std.specs.List.{All};
 ghost use Rattle.ny_num.specs.Sound.{IsTiming, timing_of};
+ghost use Rattle.ny_warp.specs.Environment.{opening};
 ghost use Rattle.ny_check.specs.Code.{node_at, AllBelow};
 ghost use Rattle.ny_check.specs.Meaning.{Bound, meaning};
 ghost use Rattle.ny_check.specs.Channels.{channels};
@@ -96,8 +97,8 @@ fn plays(
     match p.node(e) {
         Node::Vector(parts) => Ok(operands(alloc, p, e, parts.as_slice(), env, names)?),
         Node::Call(f, values) => {
-            let mut inner = arguments(alloc, p, e, *f, values.as_slice(), env, names)?;
-            Ok(plays(alloc, p, p.body(*f), env, &mut inner)?)
+            let inner = arguments(alloc, p, e, *f, values.as_slice(), env, names)?;
+            Ok(body_plays(alloc, p, p.body(*f), env, inner)?)
         }
         Node::Block(binds, value) => {
             let before = names.len();
@@ -115,6 +116,33 @@ fn plays(
     }
 }
 
+/// The same of a function's body, under what its parameters stand for.
+#[cycle(playing)]
+fn body_plays(
+    alloc: Global,
+    p: &Program,
+    body: ExprId,
+    env: &Env,
+    names: Names,
+) -> Result<Vec<Timing>, AllocError>
+    requires inside { body.0 < length p.now.nodes }
+    ensures value { IfOk result (λ ts. ts.items ≡ played_at p.now body.0 env.now names) }
+    ensures bounds { IfOk result (λ ts. All IsTiming ts.items) }
+{
+    let mut names = names;
+    plays(alloc, p, body, env, &mut names)
+}
+
+/// When the sounds are heard that a program plays at this rate.
+fn all_played(alloc: Global, p: &Program, rate: Rate) -> Result<Vec<Timing>, AllocError>
+    ensures value { IfOk result (λ ts. ts.items ≡ played_at p.now p.now.play.0 (opening rate) []) }
+    ensures bounds { IfOk result (λ ts. All IsTiming ts.items) }
+{
+    let env = Env::open(alloc, rate)?;
+    let mut names = Names::new(alloc);
+    plays(alloc, p, p.play(), &env, &mut names)
+}
+
 /// When the channels of a program are heard at the rate of a command (`docs/DEFINITIONS.md`,
 /// "Channels").
 #[tactic(auto, using(crate::proofs::TimesOfChannels::by_meaning), unfolding(crate::specs::Played::channel_times))]
@@ -122,9 +150,7 @@ pub fn channel_timings(alloc: Global, p: &Program, rate: Rate) -> Result<Vec<Tim
     ensures value { IfOk result (λ ts. ts.items ≡ map timing_of (channels p.now rate)) }
     ensures bounds { IfOk result (λ ts. All IsTiming ts.items) }
 {
-    let env = Env::open(alloc, rate)?;
-    let mut names = Names::new(alloc);
-    let played = plays(alloc, p, p.play(), &env, &mut names)?;
+    let played = all_played(alloc, p, rate)?;
     let mut times = Vec::new(alloc);
     for t in &played {
         times.push(channel_timing(&resampled_timing(rate, t)))?;

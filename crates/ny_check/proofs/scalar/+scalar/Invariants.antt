@@ -10,6 +10,9 @@ decreases-scalar l = 2 * l.e.0 + 1
 abbrev pub decreases-global_scalar : goal.decreases-global_scalar
 decreases-global_scalar l = 2 * l.value.0 + 2
 
+abbrev pub decreases-called_scalar : goal.decreases-called_scalar
+decreases-called_scalar l = 2 * l.body.0 + 2
+
 abbrev pub decreases-argument_scalars : goal.decreases-argument_scalars
 decreases-argument_scalars l = 2 * l.call.0
 

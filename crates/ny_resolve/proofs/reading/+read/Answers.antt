@@ -6,32 +6,27 @@ use Rattle.ny_resolve.specs.declared.term.Bound.{Bound}
 use Rattle.ny_resolve.specs.Names.{Scope, scope_of}
 use Rattle.ny_resolve.specs.Sizes.{size_of_part, size_of_bound}
 use Rattle.ny_resolve.proofs.Earliest.{more, after_none}
-use Rattle.ny_resolve.proofs.Forms.{faults-Number, faults-If, faults-Block, faults-Division, faults-Binary, bind_is, arguments-none}
+use Rattle.ny_resolve.proofs.Forms.{faults-Number, faults-If, faults-Division, faults-Binary, bind_is, arguments-none}
 use Rattle.ny_resolve.proofs.PartSizes.{read_step, bound-small}
 use Rattle.ny_resolve.proofs.reading.+read.Goals as goal
 
-pub read_expr-returns-in-Number-clause-first : goal.read_expr-returns-in-Number-clause-first
-read_expr-returns-in-Number-clause-first t c =
+pub read_form-returns-in-Number-clause-first : goal.read_form-returns-in-Number-clause-first
+read_form-returns-in-Number-clause-first t c =
     let s : Scope = scope_of c.args.names.now c.args.here c.args.locals.now in
     after_none c.args.first _ (faults-Number c.args.e.now c.in-Number.v s c.in-Number.is)
 
-pub read_expr-returns-in_ok-parts-in-If-clause-first : goal.read_expr-returns-in_ok-parts-in-If-clause-first
-read_expr-returns-in_ok-parts-in-If-clause-first t c =
+pub read_form-returns-in_ok-first-in-If-3-clause-first : goal.read_form-returns-in_ok-first-in-If-3-clause-first
+read_form-returns-in_ok-first-in-If-3-clause-first t c =
     let s : Scope = scope_of c.args.names.now c.args.here c.args.locals.now in
     grind (arith, more, faults-If c.args.e.now c.in-If.c c.in-If.a c.in-If.b s c.in-If.is)
 
-pub read_expr-returns-in_ok-new-in-Block-clause-first : goal.read_expr-returns-in_ok-new-in-Block-clause-first
-read_expr-returns-in_ok-new-in-Block-clause-first t c =
-    let s : Scope = scope_of c.args.names.now c.args.here c.args.locals.now in
-    grind (arith, more, faults-Block c.args.e.now c.in-Block.binds c.in-Block.value s c.in-Block.is)
-
-pub read_expr-returns-in_ok-new-in-Binary-clause-first : goal.read_expr-returns-in_ok-new-in-Binary-clause-first
-read_expr-returns-in_ok-new-in-Binary-clause-first t c =
+pub read_form-returns-in_ok-divided-in-Binary-clause-first : goal.read_form-returns-in_ok-divided-in-Binary-clause-first
+read_form-returns-in_ok-divided-in-Binary-clause-first t c =
     let s : Scope = scope_of c.args.names.now c.args.here c.args.locals.now in
     grind (arith, more, faults-Division c.args.e.now c.in-Binary.operator c.in-Binary.a c.in-Binary.b s c.in-Binary.is (sym c.is_division.ensures ∙ c.if-is_division.true))
 
-pub read_expr-returns-in_ok-parts-in-Binary-clause-first : goal.read_expr-returns-in_ok-parts-in-Binary-clause-first
-read_expr-returns-in_ok-parts-in-Binary-clause-first t c =
+pub read_form-returns-in_ok-first-in-Binary-2-clause-first : goal.read_form-returns-in_ok-first-in-Binary-2-clause-first
+read_form-returns-in_ok-first-in-Binary-2-clause-first t c =
     let s : Scope = scope_of c.args.names.now c.args.here c.args.locals.now in
     grind (arith, more, faults-Binary c.args.e.now c.in-Binary.operator c.in-Binary.a c.in-Binary.b s c.in-Binary.is (sym c.is_division.ensures ∙ c.if-is_division.false))
 

@@ -1,4 +1,7 @@
-use Rattle.std.proofs.Common.{◌≡◌, ◌≤◌, ◌+◌, ◌++◌, drop, map, [], take, length}
+use Rattle.std.proofs.Common.{◌≡◌, ◌≤◌, ◌+◌, ◌*◌, max, ◌++◌, drop, map, [], take, length}
+use denote.Param.Weighed.{most}
+use Rattle.ny_syntax.proofs.tree.Expr.TheLaws as exprs
+use Rattle.ny_syntax.proofs.tree.Bind.TheLaws as binds
 use Rattle.ny_syntax.specs.Sizes.{total, size_of, size_of_bind}
 use Rattle.ny_resolve.specs.Faults.{earliest_after}
 use Rattle.ny_resolve.specs.Sizes.{size_of_part, size_of_bound}
@@ -42,3 +45,37 @@ invariant-read_each_bind-loop-bind l =
       kept : take (length l.fn.locals) l.locals ≡ l.fn.locals;
       small : total (map size_of_bound l.done) + total (map size_of_bind (drop l.bind-index l.binds)) ≤ total (map size_of_bind l.binds);
     }
+
+-- a function that takes parts apart comes before those that it calls on the same parts
+abbrev pub decreases-read_form : goal.decreases-read_form
+decreases-read_form l = 8 * exprs.the_size l.e.now
+
+abbrev pub decreases-read_expr : goal.decreases-read_expr
+decreases-read_expr l = 8 * exprs.the_size l.e.now + 1
+
+abbrev pub decreases-read_onto : goal.decreases-read_onto
+decreases-read_onto l = 8 * exprs.the_size l.e.now + 2
+
+abbrev pub decreases-read_inside : goal.decreases-read_inside
+decreases-read_inside l = 8 * exprs.the_size l.e.now
+
+abbrev pub decreases-read_argument : goal.decreases-read_argument
+decreases-read_argument l = 8 * exprs.the_size l.e.now + 2
+
+abbrev pub decreases-read_each : goal.decreases-read_each
+decreases-read_each l = 8 * most exprs.the_size l.parts.now + 2
+
+abbrev pub decreases-read_arguments : goal.decreases-read_arguments
+decreases-read_arguments l = 8 * most exprs.the_size l.parts.now + 3
+
+abbrev pub decreases-read_call : goal.decreases-read_call
+decreases-read_call l = 8 * most exprs.the_size l.parts.now + 4
+
+abbrev pub decreases-read_each_bind : goal.decreases-read_each_bind
+decreases-read_each_bind l = 8 * most binds.the_size l.binds.now
+
+abbrev pub decreases-read_binds : goal.decreases-read_binds
+decreases-read_binds l = 8 * most binds.the_size l.binds.now + 1
+
+abbrev pub decreases-read_block : goal.decreases-read_block
+decreases-read_block l = 8 * max (most binds.the_size l.binds.now) (exprs.the_size l.value.now) + 2

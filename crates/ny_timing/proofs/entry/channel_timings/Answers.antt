@@ -25,5 +25,5 @@ returns-clause-value c =
     let code = c.args.p.now in
     let f = channel_time c.args.rate in
     let items = c.deref-t-items.result.now in
-    let found : items ≡ played_at code code.play.0 (opening c.args.rate) [] = cc (c.deref-t-items.ensures.value, c.in_ok-played.ensures.value, c.in_ok-env.ensures, c.new-names.ensures, c.play.ensures.value) in
+    let found : items ≡ played_at code code.play.0 (opening c.args.rate) [] = c.deref-t-items.ensures.value ∙ c.in_ok-played.ensures.value in
     played_times code c.args.rate c.loop-t.times.items (no_more f items c.loop-t.t-index c.loop-t.times.items (omega arith) c.loop-t.invariant.so_far ∙ ap (map f) found)
