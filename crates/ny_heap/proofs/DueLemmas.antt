@@ -107,15 +107,10 @@ module _ (B : Type 0) (bs : ℕ → List B) (t : Table) (fills peak : ℕ) (heap
   all_wait : (os : List (Option UnitData)) (from : ℕ) → ((k : ℕ) → unit_at t (from + k) ≡ get_or os k None) → list_any (waits_at t.block) (map (λ v. option_map (node_of {B = B} bs t [] v) (unit_at t v)) (range_with_len from (length os))) ≡ list_any has_waits os
   all_wait [] from at = refl
   all_wait (o ∷ os) from at =
+      let here : unit_at t from ≡ o = let e : from ≡ from + 0 = omega arith in ap (unit_at t) e ∙ at 0 in
+      let one : waits_at t.block (option_map (node_of {B = B} bs t [] from) (unit_at t from)) ≡ has_waits o = ap (λ q. waits_at t.block (option_map (node_of {B = B} bs t [] from) q)) here ∙ one_waits from o here in
+      let rest = all_wait os (from + 1) (λ k. let e : from + 1 + k ≡ from + suc k = omega arith in ap (unit_at t) e ∙ at (suc k)) in
       λ i. one i || rest i
-    where
-      one : waits_at t.block (option_map (node_of {B = B} bs t [] from) (unit_at t from)) ≡ has_waits o
-      one =
-          let here : unit_at t from ≡ o = let e : from ≡ from + 0 = omega arith in ap (unit_at t) e ∙ at 0 in
-          ap (λ q. waits_at t.block (option_map (node_of {B = B} bs t [] from) q)) here ∙ one_waits from o here
-
-      rest : list_any (waits_at t.block) (map (λ v. option_map (node_of {B = B} bs t [] v) (unit_at t v)) (range_with_len (from + 1) (length os))) ≡ list_any has_waits os
-      rest = all_wait os (from + 1) (λ k. let e : from + 1 + k ≡ from + suc k = omega arith in ap (unit_at t) e ∙ at (suc k))
 
   pub any_waiting : list_any has_waits t.units.items ≡ has_waiting {B = B} (state_of bs t fills peak)
-  any_waiting = sym (all_wait t.units.items 0 (λ k. refl))
+  any_waiting = sym (all_wait t.units.items 0 (λ k. let e : 0 + k ≡ k = omega arith in ap (unit_at t) e))
