@@ -6,7 +6,7 @@ use Rattle.ny_heap.specs.View.{branches_of, state_of}
 use Rattle.ny_heap.specs.Revealing.{due_of, HandsOut, Promises}
 use Rattle.ny_heap.specs.Work.{waits_in, without_first}
 use Rattle.ny_heap.proofs.LawLemmas.{heap_laws}
-use Rattle.ny_heap.proofs.DueLemmas.{unit_there, is_there, none_due, some_due, some_waits, branch_some}
+use Rattle.ny_heap.proofs.DueLemmas.{unit_there, is_there, none_due, some_due, some_waits}
 use Rattle.ny_heap.proofs.RevealedLemmas.{inside_handed, laws_handed, handed, handed_held, handed_promises}
 use Rattle.ny_heap.proofs.heap.Heap.next_due.Goals as goal
 
@@ -30,22 +30,12 @@ returns-then-not-is_due-clause-due g c =
     subst (λ (h : HeapState g.row.B.Denot). None ≡ due_of h c.args.u.0.0) c.self.view_is
     (sym (none_due g.row.B.Denot bs i.table i.fills i.peak c.args.u.0.0 x.0 x.1 (sym (c.is_due.ensures x.0 x.1) ∙ c.if-not-is_due.true)))
 
-pub hand_out-requires-clause-table : goal.hand_out-requires-clause-table
-hand_out-requires-clause-table g c = c.self.invariant.heap.table
-
-pub hand_out-requires-clause-waits : goal.hand_out-requires-clause-waits
-hand_out-requires-clause-waits g c =
+pub hand_out-kept-requires-clause-waits : goal.hand_out-kept-requires-clause-waits
+hand_out-kept-requires-clause-waits g c =
     let i = c.self.inside in
     let bs = branches_of (map deque_items i.branches.items) in
     let x = unit_there g.row.B.Denot bs i.table i.fills i.peak c.args.u.0.0 (subst (λ (h : HeapState g.row.B.Denot). IsSome (node_at h c.args.u.0.0)) (sym c.self.view_is) c.requires.held) in
     some_waits i.table c.args.u.0.0 x.0 x.1 (sym (c.is_due.ensures x.0 x.1) ∙ c.if-not-is_due.false)
-
-pub take_branch-requires : goal.take_branch-requires
-take_branch-requires g c =
-    let i = c.self.inside in
-    let bs = branches_of (map deque_items i.branches.items) in
-    let x = unit_there g.row.B.Denot bs i.table i.fills i.peak c.args.u.0.0 (subst (λ (h : HeapState g.row.B.Denot). IsSome (node_at h c.args.u.0.0)) (sym c.self.view_is) c.requires.held) in
-    branch_some g.row.B.Denot bs i.table i.fills i.peak c.args.u.0.0 x.0 x.1 c.self.invariant.have (sym (c.is_due.ensures x.0 x.1) ∙ c.if-not-is_due.false)
 
 pub invariant_of-self : goal.invariant_of-self
 invariant_of-self g c =
