@@ -53,6 +53,5 @@ pub mod HandOutLemmas
 pub mod AttachLemmas
 pub mod HandedLemmas
 pub mod AttachedLemmas
-pub mod BranchLemmas
 pub mod DueLemmas
 pub mod RevealedLemmas
