@@ -1,9 +1,10 @@
 -- Which part is due, and whether any waits, as the table has it.
-use Rattle.std.proofs.Common.{◌≡◌, ℕ, zero, suc, ◌+◌, ◌*◌, ◌<◌, ◌≤◌, ◌&&◌, ◌||◌, inl, inr, nat_lt, Bool, true, false, cond, IsSome, IsSomeAnd, List, [], ◌∷◌, length, map, get_or, Option, None, Some, refl, sym, ap, subst, ◌∙◌, arith}
+use Rattle.std.proofs.Common.{◌≡◌, ℕ, zero, suc, ◌+◌, ◌*◌, ◌<◌, ◌≤◌, ◌&&◌, ◌||◌, inl, inr, nat_lt, Bool, true, false, cond, IsSome, IsSomeAnd, List, [], ◌∷◌, length, map, get_or, Option, None, Some, refl, sym, ap, subst, ◌∙◌, arith, ◌≢◌, set}
 use Rattle.std.specs.List.{range_with_len, slice_get, list_any}
 use Rattle.std.specs.Option.{option_map, option_map_or}
 use Rattle.std.proofs.lemmas.Bool.{cases_lt, lt-ltb, le-ltb, ltb-true}
 use Rattle.std.proofs.lemmas.List.FromFn.{length-map-range_with_len}
+use Rattle.std.proofs.lemmas.List.{get_or_past}
 use Rattle.ny_num.specs.Grid.{index_at}
 use Rattle.ny_list.proofs.IndexLemmas.{same_some, none_some, tab_same}
 use Rattle.ny_heap.specs.declared.sound.Sound.{Sound}
@@ -107,15 +108,56 @@ module _ (B : Type 0) (bs : ℕ → List B) (t : Table) (fills peak : ℕ) (heap
   all_wait : (os : List (Option UnitData)) (from : ℕ) → ((k : ℕ) → unit_at t (from + k) ≡ get_or os k None) → list_any (waits_at t.block) (map (λ v. option_map (node_of {B = B} bs t [] v) (unit_at t v)) (range_with_len from (length os))) ≡ list_any has_waits os
   all_wait [] from at = refl
   all_wait (o ∷ os) from at =
+      let here : unit_at t from ≡ o = let e : from ≡ from + 0 = omega arith in ap (unit_at t) e ∙ at 0 in
+      let one : waits_at t.block (option_map (node_of {B = B} bs t [] from) (unit_at t from)) ≡ has_waits o = ap (λ q. waits_at t.block (option_map (node_of {B = B} bs t [] from) q)) here ∙ one_waits from o here in
+      let rest = all_wait os (from + 1) (λ k. let e : from + 1 + k ≡ from + suc k = omega arith in ap (unit_at t) e ∙ at (suc k)) in
       λ i. one i || rest i
-    where
-      one : waits_at t.block (option_map (node_of {B = B} bs t [] from) (unit_at t from)) ≡ has_waits o
-      one =
-          let here : unit_at t from ≡ o = let e : from ≡ from + 0 = omega arith in ap (unit_at t) e ∙ at 0 in
-          ap (λ q. waits_at t.block (option_map (node_of {B = B} bs t [] from) q)) here ∙ one_waits from o here
-
-      rest : list_any (waits_at t.block) (map (λ v. option_map (node_of {B = B} bs t [] v) (unit_at t v)) (range_with_len (from + 1) (length os))) ≡ list_any has_waits os
-      rest = all_wait os (from + 1) (λ k. let e : from + 1 + k ≡ from + suc k = omega arith in ap (unit_at t) e ∙ at (suc k))
 
   pub any_waiting : list_any has_waits t.units.items ≡ has_waiting {B = B} (state_of bs t fills peak)
-  any_waiting = sym (all_wait t.units.items 0 (λ k. refl))
+  any_waiting = sym (all_wait t.units.items 0 (λ k. let e : 0 + k ≡ k = omega arith in ap (unit_at t) e))
+
+-- ---- a unit and its branches
+
+pub is_there : (B : Type 0) (bs : ℕ → List B) (t : Table) (fills peak u : ℕ) → IsTable t [] → IsSome (node_at {B = B} (state_of bs t fills peak) u) → IsThere t u
+is_there B bs t fills peak u table there =
+    let x = unit_there B bs t fills peak u there in
+    let l = table.units u x.0 x.1 in
+    record { unit = x.0; there = x.1; list = l.0; listed = l.1; end = l.2.end; len = l.2.len }
+
+pub some_waits : (t : Table) (u : ℕ) (x : UnitData) → unit_at t u ≡ Some x → IsDue t u x ≡ true → IsSomeAnd (unit_at t u) (λ y. 0 < length (waits_in y.work))
+some_waits t u x at due = subst (λ o. IsSomeAnd o (λ y. 0 < length (waits_in y.work))) (sym at) (waits_some t u x due)
+
+-- where one has a branch it has a place
+pub branch_place : {A : Type 0} (bss : List (List A)) (u : ℕ) → 0 < length (get_or bss u []) → u < length bss
+branch_place bss u some = elim (cases_lt u (length bss)) [
+  | inl h ↦ h
+  | inr past ↦ absurd (omega (arith, some, ap length (get_or_past bss u [] past)))
+]
+
+module _ (B : Type 0) (bs : ℕ → List B) (t : Table) (fills peak u : ℕ) (x : UnitData) (at : unit_at t u ≡ Some x) (have : HaveBranches bs t) (due : IsDue t u x ≡ true) where
+  pub branch_some : 0 < length (bs u)
+  branch_some = omega (arith, have u x at, waits_some t u x due)
+
+  -- the branch that is due
+  pub branch_due : slice_get (bs u) 0 ≡ option_map (λ (p : Waiting B). p.branch) (due_of {B = B} (state_of bs t fills peak) u)
+  branch_due = by (bs u) refl (waits_in x.work) refl
+    where
+      by : (cs : List B) → bs u ≡ cs → (wss : List (List Sound)) → waits_in x.work ≡ wss → slice_get (bs u) 0 ≡ option_map (λ (p : Waiting B). p.branch) (due_of {B = B} (state_of bs t fills peak) u)
+      by [] e wss is = absurd (omega (arith, branch_some, ap length e))
+      by (c ∷ cs) e [] is = absurd (omega (arith, waits_some t u x due, ap length is))
+      by (c ∷ cs) e (ss ∷ wss) is = ap (λ ds. slice_get ds 0) e ∙ sym (ap (option_map (λ (p : Waiting B). p.branch)) (some_due B bs t fills peak u x at c cs ss wss e is due))
+
+-- ---- a branch is taken out
+
+module _ {A X : Type 0} (f : A → List X) where
+  pub taken_first : (items : List A) (u : ℕ) (q new : A) (b : X) → 0 < length (get_or (map f items) u []) → q ≡ get_or items u q → f q ≡ b ∷ f new → get_or (map f items) u [] ≡ b ∷ get_or (map f (set items u new)) u []
+  taken_first [] u q new b some is e = absurd (omega (arith, some))
+  taken_first (i ∷ items) zero q new b some is e = ap f (sym is) ∙ e
+  taken_first (i ∷ items) (suc u) q new b some is e = taken_first items u q new b some is e
+
+  pub taken_other : (items : List A) (u v : ℕ) (new : A) → v ≢ u → get_or (map f (set items u new)) v [] ≡ get_or (map f items) v []
+  taken_other [] u v new ne = refl
+  taken_other (i ∷ items) zero zero new ne = absurd (ne refl)
+  taken_other (i ∷ items) zero (suc v) new ne = refl
+  taken_other (i ∷ items) (suc u) zero new ne = refl
+  taken_other (i ∷ items) (suc u) (suc v) new ne = taken_other items u v new (λ e. ne (ap suc e))

@@ -54,3 +54,4 @@ pub mod AttachLemmas
 pub mod HandedLemmas
 pub mod AttachedLemmas
 pub mod DueLemmas
+pub mod RevealedLemmas
