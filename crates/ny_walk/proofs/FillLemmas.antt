@@ -10,15 +10,14 @@ use Rattle.ny_heap.specs.Reach.{Uses, Read, Hold, HeapLaws}
 use Rattle.ny_heap.specs.Steps.{Fills, filled_node, moved}
 use Rattle.ny_hands.specs.Frames.{part_is}
 use Rattle.ny_hands.specs.Hands.{marks_at}
-use Rattle.ny_hands.specs.Ranks.{IsRank}
 use Rattle.ny_hands.specs.declared.branch.Branch.{Branch}
 use Rattle.ny_hands.proofs.OptionLemmas.{same_at}
 use Rattle.ny_hands.proofs.HeapLemmas.{reached_stays}
 use Rattle.ny_hands.proofs.HandLemmas.{marks_there, trimmed_marks}
-use Rattle.ny_trace.specs.Heights.{HasRoom, Ranks}
+use Rattle.ny_trace.specs.Heights.{Ranks}
 use Rattle.ny_walk.specs.Parts.{AllPartsOf}
-use Rattle.ny_walk.specs.Below.{IsHeldAbove, Continues, Below, Drives}
-use Rattle.ny_walk.proofs.StayLemmas.{ChangesOne, other_node, high_is_other, high_reached, held_reached}
+use Rattle.ny_walk.specs.Below.{Continues, Drives}
+use Rattle.ny_walk.proofs.StayLemmas.{ChangesOne, high_reached, held_reached}
 
 -- an input of the filled unit is one that it had
 moved_of : {B : Type 0} (block done : ℕ) (x : Node B) (o : Option Reader) (r : Reader) → moved block x done o ≡ Some r → (s : Reader) × (o ≡ Some s) × (s.node ≡ r.node)
@@ -70,9 +69,11 @@ module _ {B : Type 0} (old new : HeapState B) (u : ℕ) (fills : Fills old new u
   -- a unit that is left, by what it was
   pub left_node : (v : ℕ) (z : Node B) → node_at new v ≡ Some z → (x : Node B) × (node_at old v ≡ Some x) × ((z ≡ x) ⊎ ((v ≡ u) × (z ≡ filled_node old.block fills.filled.memory x)))
   left_node v z at = elim (cases_eq v u) [
-    | inl same ↦
-        (fills.filled.unit, ap (node_at old) same ∙ fills.filled.was,
-        inr (same, same_at (node_at fills.between v) z (filled_node old.block fills.filled.memory fills.filled.unit) (fills.trimmed.kept v z at) (ap (node_at fills.between) same ∙ fills.filled.after)))
+    | inl same ↦ (
+      fills.filled.unit,
+      ap (node_at old) same ∙ fills.filled.was,
+      inr (same, same_at (node_at fills.between v) z (filled_node old.block fills.filled.memory fills.filled.unit) (fills.trimmed.kept v z at) (ap (node_at fills.between) same ∙ fills.filled.after)),
+    )
     | inr other ↦ (z, sym (fills.filled.others v other) ∙ fills.trimmed.kept v z at, inl refl)
   ]
 
