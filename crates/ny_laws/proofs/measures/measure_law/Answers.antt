@@ -1,0 +1,11 @@
+use Rattle.ny_laws.proofs.Measured.{measured, weight_within}
+use Rattle.ny_laws.proofs.measures.measure_law.Goals as goal
+
+pub returns-clause-depth : goal.returns-clause-depth
+returns-clause-depth c = (measured c.args.program.now c.order_law.ensures.ordered c.text_law.ensures.accepted).played
+
+pub returns-clause-weight : goal.returns-clause-weight
+returns-clause-weight c = weight_within c.args.program.now (measured c.args.program.now c.order_law.ensures.ordered c.text_law.ensures.accepted)
+
+pub returns-clause-text : goal.returns-clause-text
+returns-clause-text c = measured c.args.program.now c.order_law.ensures.ordered c.text_law.ensures.accepted
