@@ -26,3 +26,4 @@ pub mod OperatorShapes
 pub mod Weights
 pub mod Depths
 pub mod Measured
+pub mod LowHeights

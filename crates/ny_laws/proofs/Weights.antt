@@ -97,7 +97,7 @@ weight_node-below code n f (node.Cue a) h = summed n f (a ∷ []) (h, tt)
 weight_node-below code n f (node.Mix o es) h = summed n f es h
 weight_node-below code n f (node.Vector es) h = summed n f es h
 
-weight_at-is : (code : Code) (e : ℕ) → IsBelow code.functions e (node_at code e) → weight_at code e ≡ weight_node code (node_at code e) (weight_at code)
+pub weight_at-is : (code : Code) (e : ℕ) → IsBelow code.functions e (node_at code e) → weight_at code e ≡ weight_node code (node_at code e) (weight_at code)
 unfolding weight_at
 weight_at-is code e h =
     by_smaller-is 0 (λ m rec. weight_node code (node_at code m) rec) e ∙ weight_node-below code e (weight_at code) (node_at code e) h

@@ -14,6 +14,7 @@ use Rattle.ny_check.specs.declared.node.Node.TheVariants as node
 use Rattle.ny_check.specs.declared.node.ExprId.{ExprId}
 use Rattle.ny_check.specs.Code.{Code, node_at, function_at}
 use Rattle.ny_check.specs.Recursion.{by_smaller}
+use Rattle.ny_check.specs.Heights.{height_of}
 use Rattle.ny_check.specs.Acceptance.{fault_of}
 use Rattle.ny_laws.specs.Standing.{IsTableOf}
 use Rattle.ny_laws.specs.Reached.{operands}
@@ -76,6 +77,10 @@ weight_node code n weight = 1 + total weight (operands n)
 
 unfoldable pub weight_at : Code → ℕ → ℕ
 weight_at code = by_smaller 0 (λ e weight. weight_node code (node_at code e) weight)
+
+-- no expression makes units that stand higher one on another than two for each of its nodes
+abbrev pub HeightsAreWithin : Code → Type 0
+HeightsAreWithin code = (e : ℕ) → e < length code.nodes → height_of code e ≤ 2 * weight_at code e
 
 -- ---- the bounds
 
