@@ -22,3 +22,8 @@ pub mod Completes
 pub mod WholeTexts
 pub mod UsedNames
 pub mod KeptOnly
+pub mod OperatorShapes
+pub mod Weights
+pub mod Depths
+pub mod Measured
+pub mod LowHeights

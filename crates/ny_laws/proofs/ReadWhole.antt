@@ -56,7 +56,7 @@ pub none_left : {A : Type 0} (xs ys : List A) → xs ++ ys ≡ [] → (xs ≡ []
 none_left [] ys is = (refl, is)
 none_left (x ∷ xs) ys is = cc
 
-no_fault : (b : Bool) (w : CheckWhy) (at : ℕ) → fault_if b w at ≡ [] → b ≡ false
+pub no_fault : (b : Bool) (w : CheckWhy) (at : ℕ) → fault_if b w at ≡ [] → b ≡ false
 no_fault true w at is = cc
 no_fault false w at is = refl
 

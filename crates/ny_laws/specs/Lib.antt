@@ -5,3 +5,4 @@ pub mod Whole
 pub mod Reached
 pub mod Complete
 pub mod UsedNames
+pub mod Measures

@@ -1,4 +1,4 @@
--- Which local names a part uses from outside, and that no other names are kept of it.
+-- Which local names a part uses from outside, and that these and no other names are kept of it.
 use Rattle.std.specs.Prelude.{◌≡◌, ◌<◌, ℕ, true, false, List, [], ◌∷◌, length, Some, None}
 use Rattle.std.specs.List.{list_any}
 use Rattle.ny_syntax.specs.declared.tree.Tree.{Tree}
@@ -8,7 +8,11 @@ use Rattle.ny_resolve.specs.declared.term.Part.{Part}
 use Rattle.ny_resolve.specs.declared.term.Declared.{Declared}
 use Rattle.ny_resolve.specs.Declarations.{tree_read}
 use Rattle.ny_resolve.specs.Keys.{same_name}
-use Rattle.ny_check.specs.Code.{Code}
+use Rattle.ny_resolve.specs.declared.builtin.Order.TheVariants.{InTurn}
+use Rattle.ny_check.specs.declared.node.Node.TheVariants as node
+use Rattle.ny_check.specs.declared.node.ExprId.{ExprId}
+use Rattle.ny_check.specs.Code.{Code, node_at}
+use Rattle.ny_check.specs.FreeNames.{HasFree}
 use Rattle.ny_check.specs.KeptNames.{kept_of}
 use Rattle.ny_check.specs.Acceptance.{fault_of}
 use Rattle.ny_laws.specs.TextParts.{IsPartOf, IsInText}
@@ -42,3 +46,13 @@ pub record KeepsOnlyUsed (code : Code) : Type 0 where
   pub accepted : fault_of tree ≡ None
   pub plays : (tree_read tree).play ≡ Some play
   pub each : (id : ℕ) → id < length code.nodes → KeepsUsed (tree_read tree).declared play code id
+
+-- all free names of these nodes are kept
+abbrev pub HaveFree : Code → List ExprId → Type 0
+HaveFree code [] = Unit {0}
+HaveFree code (e ∷ es) = HasFree code e.0 (kept_of code e.0) × HaveFree code es
+
+-- so of the parts of each sequence, and of the part of each repeat in turn
+pub record PartsHaveFree (code : Code) : Type 0 where
+  pub sequences : (e : ℕ) (es : List ExprId) → node_at code e ≡ node.Mix InTurn es → HaveFree code es
+  pub repeats : (e : ℕ) (x : NameId) (n : ℕ) (part : ExprId) → node_at code e ≡ node.Repeat InTurn x n part → HasFree code part.0 (kept_of code part.0)
