@@ -28,7 +28,7 @@ use Rattle.ny_heap.specs.declared.task.Task.TheVariants.{Made as MadeTask, Mix a
 use Rattle.ny_heap.specs.Tasks.{IsTask, IsOver, ReadsSound, BeginsWork, waits_of_task, input_of_sound, HasSides, BeginsAt, BringsFrom, Hears}
 use Rattle.ny_heap.specs.Making.{HasRoom, Places, Adds, ShowFirst}
 use Rattle.ny_heap.specs.Heap.{Kind, blocks_of, taken_after}
-use Rattle.ny_heap.specs.Table.{unit_at, timing_at, own_in, own_of, held_in, len_of, mark_in, stands_at, rest_of, ShowsFirst, IsTable, IsUnit, IsInput, IsKept, IsRead}
+use Rattle.ny_heap.specs.Table.{unit_at, timing_at, own_in, own_of, held_in, len_of, mark_in, stands_at, ShowsFirst, IsTable, IsUnit, IsInput, IsKept, IsRead}
 use Rattle.ny_heap.specs.View.{filled_in, IsClean, IsAtNeed, IsExhausted, WaitsForNothing, IsHeap, last_stop_in, IsTimely}
 use Rattle.ny_heap.proofs.ListLemmas.{list_here, list_other, len_is}
 use Rattle.ny_heap.proofs.RestLemmas.{inputs_rest}

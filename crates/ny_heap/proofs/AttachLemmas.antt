@@ -1,5 +1,5 @@
 -- The table once a unit has one more input.
-use Rattle.std.proofs.Common.{◌≡◌, ◌≢◌, ◌⊎◌, inl, inr, ℕ, zero, suc, ◌+◌, ◌-◌, ◌*◌, ◌<◌, ◌≤◌, min, List, [], ◌∷◌, ◌++◌, length, map, get_or, slice_get, set, vec_capacity, Option, None, Some, IsSome, is_some, count_by, refl, sym, ap, subst, ◌∙◌, arith, length-append}
+use Rattle.std.proofs.Common.{◌≡◌, ◌≢◌, ◌⊎◌, inl, inr, ℕ, zero, suc, ◌+◌, ◌-◌, ◌*◌, ◌<◌, ◌≤◌, min, List, [], ◌∷◌, ◌++◌, length, map, get_or, slice_get, set, Option, None, Some, IsSome, is_some, count_by, refl, sym, ap, subst, ◌∙◌, arith, length-append}
 use Rattle.std.specs.List.{sum_by, range_with_len}
 use Rattle.std.specs.Option.{option_map, option_map_or}
 use Rattle.std.proofs.lemmas.List.{get_or-set_same, get_or-set_other, get_or_append_left, get_or_push}
@@ -22,7 +22,7 @@ use Rattle.ny_num.specs.Grid.{index_at}
 use Rattle.ny_heap.specs.Heap.{Kind, Mix, Reader, is_reader, blocks_of, taken_after}
 use Rattle.ny_heap.specs.Work.{kind_of, inputs_in, source_at, cursor_at, memory_in, waits_in, flat, kept_in, cursors_of_sounds, HasPlaces, HasGiven}
 use Rattle.ny_heap.specs.Tasks.{part_of, HasSides, BeginsAt, BringsFrom, Hears}
-use Rattle.ny_heap.specs.Table.{unit_at, timing_at, input_of, readers_of, own_in, own_of, held_in, mark_in, len_of, stands_at, ShowsFirst, IsTable, IsUnit, IsInput, IsKept, IsRead}
+use Rattle.ny_heap.specs.Table.{unit_at, timing_at, input_of, readers_of, own_in, own_of, mark_in, len_of, stands_at, ShowsFirst, IsTable, IsUnit, IsInput, IsKept, IsRead}
 use Rattle.ny_heap.specs.View.{filled_in, last_stop_in, IsHeap}
 use Rattle.ny_heap.specs.Attaching.{with_part_in, GetsPart}
 use Rattle.ny_heap.proofs.TableLemmas.{place_within}

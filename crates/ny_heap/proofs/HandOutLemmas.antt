@@ -1,5 +1,5 @@
 -- The table once the first part of a unit that waits was handed out.
-use Rattle.std.proofs.Common.{◌≡◌, ◌≢◌, ◌⊎◌, inl, inr, ℕ, zero, suc, ◌+◌, ◌-◌, ◌*◌, ◌<◌, ◌≤◌, min, List, [], ◌∷◌, ◌++◌, length, get_or, slice_get, set, vec_capacity, Option, None, Some, IsSome, is_some, count_by, refl, sym, ap, subst, ◌∙◌, arith}
+use Rattle.std.proofs.Common.{◌≡◌, ◌≢◌, ◌⊎◌, inl, inr, ℕ, ◌+◌, ◌*◌, ◌<◌, ◌≤◌, min, List, [], ◌∷◌, length, get_or, slice_get, set, vec_capacity, Option, None, Some, IsSome, is_some, count_by, refl, sym, ap, subst, ◌∙◌, arith}
 use Rattle.std.specs.List.{sum_by}
 use Rattle.std.specs.Option.{option_map_or}
 use Rattle.std.specs.Vec.{with_item}
@@ -17,7 +17,7 @@ use Rattle.ny_num.specs.Grid.{index_at}
 use Rattle.ny_units.specs.Inputs.{IsReader}
 use Rattle.ny_heap.specs.Heap.{blocks_of, taken_after}
 use Rattle.ny_heap.specs.Work.{kind_of, source_at, cursor_at, waits_in, without_first, kept_in, HasPlaces, HasGiven}
-use Rattle.ny_heap.specs.Table.{unit_at, timing_at, own_in, own_of, held_in, mark_in, len_of, stands_at, IsTable, IsUnit, IsInput, IsKept, IsRead}
+use Rattle.ny_heap.specs.Table.{unit_at, timing_at, own_in, own_of, held_in, mark_in, len_of, stands_at, IsTable, IsUnit, IsInput, IsKept}
 use Rattle.ny_heap.specs.View.{filled_in, last_stop_in, IsHeap}
 use Rattle.ny_heap.specs.Attaching.{TakesPart}
 use Rattle.ny_heap.proofs.TableLemmas.{place_within}
@@ -46,8 +46,7 @@ module _ (t new : Table) (u p : ℕ) (x : UnitData) (cs : List (Option CursorSta
   unit_was : (w : ℕ) (z : UnitData) → unit_at new w ≡ Some z → (q : UnitData) × (unit_at t w ≡ Some q) × (z ≡ record q { pending = z.pending }) × (HasPlaces z.work z.pending) × (length z.inputs.items + length (waits_in z.work) + z.pending ≤ vec_capacity z.inputs)
   unit_was w z is = elim (cases_eq w u) [
     | inl e ↦
-        let same : unit_now ≡ z = same_some (sym now_here ∙ sym (ap (unit_at new) e) ∙ is) in
-        (
+        let same : unit_now ≡ z = same_some (sym now_here ∙ sym (ap (unit_at new) e) ∙ is) in (
           x,
           ap (unit_at t) e ∙ at,
           subst (λ (q : UnitData). q ≡ record x { pending = q.pending }) same refl,

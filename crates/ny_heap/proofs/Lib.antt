@@ -45,7 +45,14 @@ pub mod NextLemmas
 pub mod PassLemmas
 pub mod SettleLemmas
 pub mod GoingLemmas
+pub mod RevealMeans
+pub mod RaiseLemmas
 pub mod ForgetLemmas
 pub mod StopLemmas
 pub mod HandOutLemmas
 pub mod AttachLemmas
+pub mod HandedLemmas
+pub mod AttachedLemmas
+pub mod DueLemmas
+pub mod RevealedLemmas
+pub mod SettledLemmas

@@ -11,4 +11,5 @@ pub mod View
 pub mod Making
 pub mod Mixing
 pub mod Filling
+pub mod Revealing
 pub mod Attaching

@@ -1,19 +1,22 @@
-ghost use Rattle.std.specs.Prelude.{◌≡◌, ◌≢◌, nat_lt, if◌then◌else◌, ℕ, ◌+◌, ◌-◌, ◌<◌, ◌≤◌, ◌↔◌, ◌^◌, IsTrue, IsSomeAnd, [], Some, None, IfSome, IfOk, OnOk, OnErr, is_err, length, take, drop, map, ◌++◌};
+ghost use Rattle.std.specs.Prelude.{◌≡◌, ◌≢◌, nat_lt, if◌then◌else◌, ℕ, ◌+◌, ◌-◌, ◌<◌, ◌≤◌, ◌↔◌, ◌^◌, IsTrue, IsSome, IsSomeAnd, IfNone, option_copied, [], Some, None, IfSome, IfOk, OnOk, OnErr, is_err, length, take, drop, map, ◌++◌};
 ghost use Rattle.std.specs.Option.{option_map};
 ghost use Rattle.ny_heap.specs.Heap.{HeapState, Made, node_at, list_of, place_of, open_unit, is_open, live_of, free_of};
 ghost use Rattle.ny_heap.specs.Means.{Parts, Whole, Means, KeepsMeaning, sound_in};
 ghost use Rattle.ny_heap.specs.Reach.{HeapLaws, IsTrimmed};
+ghost use Rattle.ny_heap.specs.Revealing.{due_of, has_waiting, HandsOut, Promises, IsNextPart, Attaches, Delivers};
 ghost use Rattle.ny_num.specs.Sound.{IsTiming};
 ghost use Rattle.ny_heap.specs.Sharing.{CanShare, moved_to};
 ghost use Rattle.ny_heap.specs.Wanting.{NoneWanted};
 ghost use Rattle.ny_heap.specs.Steps.{IsHeldSound, with_sound, without_sound, without_sounds, AreHeld, IsMadeOf, IsMixOf, sounds_of, waiting_of, kind_of_mix, Makes, MakesMeaning, want_of, IsSettledUnit, Fills, Passes, run_of, computed_in, advanced};
 
 use crate::adding::make_unit;
+use crate::attaching::{any_waits, attach_part, hand_out, last_stop_of};
 use crate::filling::fill_block;
 use crate::make::Make;
 use crate::mixing::{drop_parts, place_branches, split};
 use crate::reading::read_next;
 use crate::removal::drop_reader;
+use crate::revealing::{first_branch, is_due, take_branch};
 use crate::sharing::{moved, readers, share_reader};
 use crate::sound::{Sound, begin, list_in, same_timing};
 use crate::table::{Table, is_unfilled};
@@ -236,6 +239,64 @@ impl<B> Heap<B> {
         }
         let Sound { reader, .. } = s;
         begin(reader, timing)
+    }
+
+    /// What the first part that waits at `u` is evaluated from, where `u` needs that part in its next
+    /// block; None exactly where no part waits or the first is not needed yet.
+    pub fn due(&self, u: UnitId) -> Option<&B>
+        requires held { IsSome (node_at self.now u.0.0) }
+        ensures due { option_copied result ≡ option_map (λ p. p.branch) (due_of self.now u.0.0) }
+    {
+        if !is_due(&self.table, u.0.0) {
+            return None;
+        }
+        first_branch(self.branches.as_slice(), u.0.0)
+    }
+
+    /// The part that is due at `u`, with the sounds that it kept, which are the caller's from then on;
+    /// None exactly where none is due. The part waits no longer, and is to be attached.
+    pub fn next_due(&mut self, u: UnitId) -> Option<(B, Vec<Sound>)>
+        requires held { IsSome (node_at self.old u.0.0) }
+        ensures laws { HeapLaws self.new }
+        ensures due { option_map (λ p. waiting_of (p.0, p.1.items)) result ≡ due_of self.old u.0.0 }
+        ensures nothing { IfNone result (self.new ≡ self.old) }
+        ensures hands { IfSome result (λ p. HandsOut self.old self.new u.0.0 p.0 p.1.items) }
+        ensures sounds { IfSome result (λ p. AreHeld self.new p.1.items) }
+        ensures meaning { IfSome result (λ p. Promises self.old self.new u.0.0 (waiting_of (p.0, p.1.items))) }
+    {
+        if !is_due(&self.table, u.0.0) {
+            return None;
+        }
+        let kept = hand_out(&mut self.table, u.0.0);
+        let branch = take_branch(&mut self.branches, u.0.0);
+        Some((branch, kept))
+    }
+
+    /// The stop of the part that `u` was given last.
+    pub fn last_stop(&self, u: UnitId) -> Ticks
+        requires given { IsSomeAnd (node_at self.now u.0.0) (λ x. 0 < length x.inputs) }
+        ensures { option_map (λ x. x.last_stop) (node_at self.now u.0.0) ≡ Some result }
+    {
+        last_stop_of(&self.table, u.0.0)
+    }
+
+    /// Attaches a sound to `u` as its next part: one that was handed out and is evaluated. The sound is spent.
+    pub fn attach(&mut self, u: UnitId, part: Sound)
+        requires held { IsHeldSound self.old part }
+        requires begins { place_of part ≡ 0 }
+        requires next { IsSomeAnd (node_at self.old u.0.0) (λ x. IsNextPart self.old u.0.0 x part) }
+        ensures laws { HeapLaws self.new }
+        ensures attaches { Attaches self.old self.new u.0.0 part }
+        ensures meaning { Delivers self.old self.new u.0.0 part }
+    {
+        attach_part(&mut self.table, u.0.0, part);
+    }
+
+    /// Whether a part waits at some unit that has a block left to fill.
+    pub fn waiting(&self) -> bool
+        ensures { result ≡ has_waiting self.now }
+    {
+        any_waits(&self.table)
     }
 
     /// The unit that fills a sound's list; None exactly where the sound has no sample, or its unit

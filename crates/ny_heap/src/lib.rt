@@ -13,6 +13,7 @@ mod make;
 mod mixing;
 mod reading;
 mod removal;
+mod revealing;
 mod settling;
 mod sharing;
 mod sound;

@@ -1,7 +1,6 @@
-use Rattle.std.proofs.Common.{rules, ◌≡◌, ◌-◌, [], ◌∷◌, ◌++◌, Some, refl, ap, ◌∙◌}
+use Rattle.std.proofs.Common.{rules, ◌-◌, [], ◌∷◌, ◌++◌, refl, ap, ◌∙◌}
 use Rattle.ny_num.specs.declared.timing.Timing.{Timing}
 use Rattle.ny_heap.specs.declared.work.Work.{Work}
-use Rattle.ny_heap.specs.Table.{unit_at}
 use Rattle.ny_heap.proofs.TableLemmas.{found_there}
 use Rattle.ny_heap.proofs.FirstLemmas.{some_and}
 use Rattle.ny_heap.proofs.attaching.attach_part.Goals as goal

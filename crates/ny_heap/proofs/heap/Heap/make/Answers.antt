@@ -1,4 +1,4 @@
-use Rattle.std.proofs.Common.{◌≡◌, List, [], ◌++◌, Ok, Err, sym, ap, subst, ◌∙◌, map, deque_items, arith}
+use Rattle.std.proofs.Common.{◌≡◌, List, [], Ok, Err, sym, ap, subst, ◌∙◌, map, deque_items, arith}
 use Rattle.ny_heap.specs.declared.sound.Sound.{Sound}
 use Rattle.ny_heap.specs.Heap.{HeapState, Made}
 use Rattle.ny_heap.specs.Means.{KeepsMeaning}
