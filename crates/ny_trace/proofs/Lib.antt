@@ -13,3 +13,9 @@ pub mod RisingCueLemmas
 pub mod RisingEvaluationLemmas
 pub mod SettlingLemmas
 pub mod StepLemmas
+pub mod LeftLemmas
+pub mod RevealHandLemmas
+pub mod RevealLemmas
+pub mod RisingRevealLemmas
+pub mod SettlingRevealLemmas
+pub mod ReadyPartLemmas

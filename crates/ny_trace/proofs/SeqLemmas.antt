@@ -55,7 +55,7 @@ keep_later code [] qs free = free
 keep_later code (p ∷ ps) qs free = keep_later code ps qs free.1
 
 module _ (code : Code) (D : Trace) (law : IsLawful code D) where
-  abbrev next_sound : Env → ℕ → Part → Whole → sounds.Sound
+  abbrev pub next_sound : Env → ℕ → Part → Whole → sounds.Sound
   next_sound env stop p w = next_part env stop (part_in code w p)
 
   abbrev next_items : Env → ℕ → List Part → List Sound → List Item

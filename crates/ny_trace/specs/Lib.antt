@@ -2,3 +2,4 @@ pub mod Evaluates
 pub mod Laws
 pub mod Heights
 pub mod Settled
+pub mod Reveals

@@ -5,5 +5,7 @@
 #![tactic(auto)]
 
 mod laws;
+mod reveals;
 
 pub use laws::trace_laws;
+pub use reveals::reveal_laws;
