@@ -1,25 +1,25 @@
 -- What a contract sees once a part was attached: it is its unit's, and no more its caller's.
-use Rattle.std.proofs.Common.{◌≡◌, ◌≢◌, ◌⊎◌, inl, inr, ℕ, zero, suc, ◌+◌, ◌-◌, ◌<◌, ◌≤◌, List, [], ◌∷◌, ◌++◌, length, map, get_or, set, Option, None, Some, refl, sym, ap, subst, ◌∙◌, arith, length-set}
-use Rattle.std.specs.List.{range_with_len, slice_get}
+use Rattle.std.proofs.Common.{◌≡◌, ◌⊎◌, inl, inr, ℕ, zero, suc, ◌+◌, ◌-◌, ◌<◌, List, [], ◌∷◌, ◌++◌, length, map, get_or, set, Option, None, Some, refl, sym, ap, subst, ◌∙◌, arith, length-set}
+use Rattle.std.specs.List.{range_with_len}
 use Rattle.std.specs.Option.{option_map, option_map_or}
 use Rattle.std.proofs.lemmas.Bool.{cases_eq}
 use Rattle.std.proofs.lemmas.List.FromFn.{length-map-range_with_len}
 use Rattle.ny_num.specs.declared.timing.Timing.{Timing}
-use Rattle.ny_list.specs.Store.{ListState, CursorState, list_at}
+use Rattle.ny_list.specs.Store.{ListState, CursorState}
 use Rattle.ny_list.proofs.IndexLemmas.{same_some, none_some, tab_get, tab_same, tab_set}
 use Rattle.ny_heap.specs.declared.sound.Sound.{Sound}
 use Rattle.ny_heap.specs.declared.table.Unit.{Unit as UnitData}
 use Rattle.ny_heap.specs.declared.table.Table.{Table}
 use Rattle.ny_heap.specs.declared.work.Work.{Work}
 use Rattle.ny_heap.specs.declared.work.Work.TheVariants.{Leaf as LeafWork, Pair as PairWork, Abs as AbsWork, Resample as ResampleWork, Filter as FilterWork, Mix as MixWork, Channel as ChannelWork}
-use Rattle.ny_heap.specs.Heap.{Reader, Mix, Node, HeapState, node_at, list_of, place_of}
+use Rattle.ny_heap.specs.Heap.{Reader, Mix, Node, node_at}
 use Rattle.ny_heap.specs.Reach.{Uses, LeadsIn, LeadsTo}
 use Rattle.ny_heap.specs.Steps.{reader_of, changed, without_sound}
 use Rattle.ny_heap.specs.Work.{kind_of, cursor_at, waits_in, kept_in, cursors_of_sounds, HasPlaces}
-use Rattle.ny_heap.specs.Table.{unit_at, timing_at, input_of, readers_of, own_in, held_in, mark_in, len_of, stands_at, IsTable}
+use Rattle.ny_heap.specs.Table.{unit_at, input_of, readers_of, held_in, mark_in, IsTable}
 use Rattle.ny_heap.specs.View.{node_of, state_of, state_with, outside_in, filled_in, last_stop_in, waiting_with, HaveBranches}
 use Rattle.ny_heap.specs.Revealing.{with_part, Attaches, Delivers}
-use Rattle.ny_heap.specs.Attaching.{with_part_in, GetsPart}
+use Rattle.ny_heap.specs.Attaching.{GetsPart}
 use Rattle.ny_heap.proofs.TableLemmas.{place_within}
 use Rattle.ny_heap.proofs.KeepLemmas.{HoldsCursor, cursor_kept, kept_at}
 use Rattle.ny_heap.proofs.CountLemmas.{held_cons}
@@ -27,8 +27,8 @@ use Rattle.ny_heap.proofs.AddLemmas.{reads_as}
 use Rattle.ny_heap.proofs.StepLemmas.{node_with}
 use Rattle.ny_heap.proofs.ViewLemmas.{node_of_unit, unit_of_node, used_lower, cursor_uses}
 use Rattle.ny_heap.proofs.RevealMeans.{OthersStay, means_delivered}
-use Rattle.ny_heap.proofs.RaiseLemmas.{IsAmong, WalksIn, WalksTo, raised, raised_most, raised_falls, raised_apart}
-use Rattle.ny_heap.proofs.AttachLemmas.{unit_now, had, more, units_now, now_here, now_else, own_now, readers_now, timing_last, cursor_last}
+use Rattle.ny_heap.proofs.RaiseLemmas.{IsAmong, WalksIn, raised, raised_most, raised_falls, raised_apart}
+use Rattle.ny_heap.proofs.AttachLemmas.{unit_now, more, units_now, now_here, now_else, own_now, readers_now, timing_last, cursor_last}
 
 -- ---- an order in which the part stands below its unit
 

@@ -3,22 +3,20 @@ use Rattle.std.proofs.Common.{◌≡◌, ℕ, zero, suc, ◌+◌, ◌*◌, ◌<�
 use Rattle.std.specs.List.{range_with_len, slice_get, list_any}
 use Rattle.std.specs.Option.{option_map, option_map_or}
 use Rattle.std.proofs.lemmas.Bool.{cases_lt, lt-ltb, le-ltb, ltb-true}
-use Rattle.std.proofs.lemmas.List.FromFn.{length-map-range_with_len}
 use Rattle.std.proofs.lemmas.List.{get_or_past}
 use Rattle.ny_num.specs.Grid.{index_at}
-use Rattle.ny_list.proofs.IndexLemmas.{same_some, none_some, tab_same}
 use Rattle.ny_heap.specs.declared.sound.Sound.{Sound}
 use Rattle.ny_heap.specs.declared.table.Unit.{Unit as UnitData}
 use Rattle.ny_heap.specs.declared.table.Table.{Table}
-use Rattle.ny_heap.specs.Heap.{Waiting, Node, HeapState, node_at, is_open, blocks_of}
+use Rattle.ny_heap.specs.Heap.{Waiting, Node, node_at, is_open, blocks_of}
 use Rattle.ny_heap.specs.Steps.{waiting_of}
 use Rattle.ny_heap.specs.Work.{waits_in}
-use Rattle.ny_heap.specs.Table.{unit_at, readers_of, IsTable, IsThere}
+use Rattle.ny_heap.specs.Table.{unit_at, IsTable, IsThere}
 use Rattle.ny_heap.specs.View.{node_of, state_of, filled_in, last_stop_in, waiting_with, HaveBranches, IsHeap}
 use Rattle.ny_heap.specs.Revealing.{due_of, needs_part, waits_at, has_waiting}
 use Rattle.ny_heap.specs.Attaching.{has_waits}
 use Rattle.ny_heap.proofs.ViewLemmas.{node_of_unit, unit_of_node}
-use Rattle.ny_heap.proofs.CountLemmas.{some_is, is_some_of}
+use Rattle.ny_heap.proofs.CountLemmas.{some_is}
 
 -- a unit that is there is there in the table
 pub unit_there : (B : Type 0) (bs : ℕ → List B) (t : Table) (fills peak u : ℕ) → IsSome (node_at {B = B} (state_of bs t fills peak) u) → (x : UnitData) × (unit_at t u ≡ Some x)

@@ -1,20 +1,20 @@
 -- What a contract sees once a part was handed out: its sounds are its caller's.
-use Rattle.std.proofs.Common.{◌≡◌, ◌≢◌, ℕ, zero, suc, ◌+◌, ◌-◌, ◌/◌, ◌<◌, ◌≤◌, cond, nat_eq, ◌&&◌, List, [], ◌∷◌, ◌++◌, length, map, drop, get_or, set, slice_index, Option, None, Some, refl, sym, ap, subst, ◌∙◌, arith, length-set, inl, inr}
+use Rattle.std.proofs.Common.{◌≡◌, ◌≢◌, ℕ, zero, suc, ◌+◌, ◌-◌, ◌/◌, ◌<◌, cond, nat_eq, ◌&&◌, List, [], ◌∷◌, ◌++◌, length, map, drop, get_or, set, slice_index, Option, None, Some, refl, sym, ap, subst, ◌∙◌, arith, length-set, inl, inr}
 use Rattle.std.specs.List.{range_with_len, sum_by, slice_get}
 use Rattle.std.specs.Option.{option_map, option_map_or}
 use Rattle.std.proofs.lemmas.List.{set-set, get_or-set_same, get_or-set_other, get_or_past, map-append}
 use Rattle.std.proofs.lemmas.List.Sums.{sum_by-set, sum_by-append}
 use Rattle.std.proofs.lemmas.Bool.{cases_lt, cases_eq, eq-eqb, ne_eqb}
 use Rattle.ny_list.specs.Store.{ListState, CursorState, list_at}
-use Rattle.ny_list.proofs.IndexLemmas.{same_some, none_some, tab_get, tab_same, tab_set}
+use Rattle.ny_list.proofs.IndexLemmas.{same_some, tab_get, tab_same, tab_set}
 use Rattle.ny_heap.specs.declared.sound.Sound.{Sound}
 use Rattle.ny_heap.specs.declared.table.Unit.{Unit as UnitData}
 use Rattle.ny_heap.specs.declared.table.Table.{Table}
 use Rattle.ny_heap.specs.declared.work.Work.{Work}
 use Rattle.ny_heap.specs.declared.work.Work.TheVariants.{Leaf as LeafWork, Pair as PairWork, Abs as AbsWork, Resample as ResampleWork, Filter as FilterWork, Mix as MixWork, Channel as ChannelWork}
-use Rattle.ny_heap.specs.Heap.{Reader, Waiting, Node, HeapState, node_at, block_at, list_of, place_of, stands_in, blocks_of, is_reader}
-use Rattle.ny_heap.specs.Steps.{IsCounted, IsHeldAt, IsHeldSound, AreHeld, changed, with_mark, without_mark, with_sound, without_sound, without_sounds, waiting_of, captured_of}
-use Rattle.ny_heap.specs.Work.{kind_of, memory_in, cursor_at, waits_in, without_first, kept_in}
+use Rattle.ny_heap.specs.Heap.{Reader, Node, HeapState, node_at, list_of, place_of, stands_in, blocks_of, is_reader}
+use Rattle.ny_heap.specs.Steps.{IsCounted, IsHeldAt, IsHeldSound, AreHeld, changed, with_mark, without_mark, with_sound, without_sound, without_sounds, waiting_of}
+use Rattle.ny_heap.specs.Work.{kind_of, memory_in, waits_in, without_first, kept_in}
 use Rattle.ny_heap.specs.Table.{unit_at, timing_at, input_of, readers_of, own_in, own_of, held_in, mark_in, len_of, stands_at, IsTable, IsKept, ShowsFirst}
 use Rattle.ny_heap.specs.View.{node_of, state_of, state_with, outside_in, filled_in, waiting_with, HaveBranches}
 use Rattle.ny_heap.specs.Means.{Means}
@@ -23,7 +23,7 @@ use Rattle.ny_heap.specs.Attaching.{TakesPart}
 use Rattle.ny_heap.proofs.TableLemmas.{place_within}
 use Rattle.ny_heap.proofs.ListLemmas.{len_is}
 use Rattle.ny_heap.proofs.KeepLemmas.{cursor_first}
-use Rattle.ny_heap.proofs.CountLemmas.{some_is, is_some_of, held_cons, IsTable-hand}
+use Rattle.ny_heap.proofs.CountLemmas.{some_is, held_cons, IsTable-hand}
 use Rattle.ny_heap.proofs.SpentLemmas.{cursors_in}
 use Rattle.ny_heap.proofs.StepLemmas.{node_with}
 use Rattle.ny_heap.proofs.ViewLemmas.{node_of_unit, unit_of_node}

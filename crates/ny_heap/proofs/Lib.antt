@@ -55,3 +55,4 @@ pub mod HandedLemmas
 pub mod AttachedLemmas
 pub mod DueLemmas
 pub mod RevealedLemmas
+pub mod SettledLemmas

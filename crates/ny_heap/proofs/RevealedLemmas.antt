@@ -1,5 +1,5 @@
 -- What a heap is once a part was handed out, and once it was attached.
-use Rattle.std.proofs.Common.{◌≡◌, ◌≢◌, ℕ, ◌+◌, ◌*◌, ◌<◌, ◌≤◌, List, [], ◌∷◌, length, Option, None, Some, refl, sym, ap, subst, ◌∙◌, arith, ℤ}
+use Rattle.std.proofs.Common.{◌≡◌, ◌≢◌, ℕ, ◌+◌, ◌*◌, ◌<◌, ◌≤◌, List, [], ◌∷◌, length, Option, Some, sym, ap, subst, ◌∙◌, arith, ℤ}
 use Rattle.std.specs.Option.{option_map, option_map_or}
 use Rattle.ny_num.specs.Grid.{index_at, tick_at}
 use Rattle.ny_num.specs.declared.rate.Rate.{Rate}
@@ -8,16 +8,15 @@ use Rattle.ny_list.proofs.IndexLemmas.{same_some}
 use Rattle.ny_heap.specs.declared.sound.Sound.{Sound}
 use Rattle.ny_heap.specs.declared.table.Unit.{Unit as UnitData}
 use Rattle.ny_heap.specs.declared.table.Table.{Table}
-use Rattle.ny_heap.specs.Heap.{Node, HeapState, node_at, list_of, place_of}
+use Rattle.ny_heap.specs.Heap.{Node, node_at, place_of}
 use Rattle.ny_heap.specs.Reach.{HeapLaws}
 use Rattle.ny_heap.specs.Steps.{IsHeldSound, AreHeld, without_sound, waiting_of}
-use Rattle.ny_heap.specs.Table.{unit_at, ShowsFirst, IsTable, IsKept}
+use Rattle.ny_heap.specs.Table.{unit_at, IsTable, IsKept}
 use Rattle.ny_heap.specs.View.{node_of, state_of, state_with, filled_in, last_stop_in, IsHeap, IsHeapInside}
 use Rattle.ny_heap.specs.Revealing.{IsNextPart, HandsOut, Promises, Attaches, Delivers}
 use Rattle.ny_heap.specs.Attaching.{TakesPart, GetsPart}
 use Rattle.ny_heap.proofs.LawLemmas.{heap_laws}
 use Rattle.ny_heap.proofs.ViewLemmas.{node_of_unit}
-use Rattle.ny_heap.proofs.SpentLemmas.{cursors_in}
 use Rattle.ny_heap.proofs.SoundLemmas.{all_taken}
 use Rattle.ny_heap.proofs.MadeLemmas.{all_kept}
 use Rattle.ny_heap.proofs.WaitingMeans.{index_of_stop}

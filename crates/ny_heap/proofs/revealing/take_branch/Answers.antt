@@ -1,4 +1,4 @@
-use Rattle.std.proofs.Common.{◌≡◌, ◌∙◌, ◌++◌, ap, deque_items}
+use Rattle.std.proofs.Common.{◌∙◌, ◌++◌, ap, deque_items}
 use Rattle.std.specs.Option.{option_to_list}
 use Rattle.ny_heap.proofs.DueLemmas.{taken_first, taken_other}
 use Rattle.ny_heap.proofs.revealing.take_branch.Goals as goal

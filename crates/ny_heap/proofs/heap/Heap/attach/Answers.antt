@@ -1,4 +1,4 @@
-use Rattle.std.proofs.Common.{◌≡◌, ◌<◌, IsSomeAnd, sym, subst, map, deque_items}
+use Rattle.std.proofs.Common.{◌<◌, IsSomeAnd, sym, subst, map, deque_items}
 use Rattle.ny_heap.specs.declared.table.Unit.{Unit as UnitData}
 use Rattle.ny_heap.specs.Heap.{HeapState, node_at}
 use Rattle.ny_heap.specs.Steps.{IsHeldSound}

@@ -1,9 +1,9 @@
-use Rattle.std.proofs.Common.{◌≡◌, ◌∙◌, Some, None, IsSome, Option, length, map, deque_items, get_or, [], sym, ap, subst, arith, false, true}
+use Rattle.std.proofs.Common.{◌≡◌, ◌∙◌, None, IsSome, length, map, deque_items, get_or, [], sym, ap, subst, arith}
 use Rattle.std.specs.List.{slice_get}
 use Rattle.std.proofs.lemmas.List.{length-map}
 use Rattle.std.specs.Option.{option_map}
 use Rattle.ny_heap.specs.Heap.{HeapState, Waiting, node_at}
-use Rattle.ny_heap.specs.View.{branches_of, state_of}
+use Rattle.ny_heap.specs.View.{branches_of}
 use Rattle.ny_heap.specs.Revealing.{due_of}
 use Rattle.ny_heap.proofs.DueLemmas.{unit_there, is_there, none_due, branch_some, branch_due, branch_place}
 use Rattle.ny_heap.proofs.heap.Heap.due.Goals as goal

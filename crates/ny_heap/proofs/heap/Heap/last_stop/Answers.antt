@@ -1,10 +1,10 @@
-use Rattle.std.proofs.Common.{◌≡◌, ◌<◌, IsSomeAnd, Some, length, sym, ap, subst, ◌∙◌, map, deque_items, arith}
+use Rattle.std.proofs.Common.{◌<◌, IsSomeAnd, Some, length, sym, ap, subst, ◌∙◌, map, deque_items, arith}
 use Rattle.std.specs.Option.{option_map}
 use Rattle.std.proofs.lemmas.List.FromFn.{length-map-range_with_len}
 use Rattle.ny_heap.specs.declared.table.Unit.{Unit as UnitData}
 use Rattle.ny_heap.specs.Heap.{Node, HeapState, node_at}
 use Rattle.ny_heap.specs.Table.{input_of}
-use Rattle.ny_heap.specs.View.{branches_of, node_of}
+use Rattle.ny_heap.specs.View.{branches_of}
 use Rattle.ny_heap.proofs.FirstLemmas.{some_and}
 use Rattle.ny_heap.proofs.ViewLemmas.{unit_of_node, node_of_unit}
 use Rattle.ny_heap.proofs.heap.Heap.last_stop.Goals as goal

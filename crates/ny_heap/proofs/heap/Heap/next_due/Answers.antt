@@ -1,7 +1,7 @@
-use Rattle.std.proofs.Common.{◌≡◌, ◌∙◌, ◌<◌, Some, None, IsSome, Option, length, map, get_or, [], deque_items, sym, ap, subst, arith, false, true}
-use Rattle.ny_heap.specs.Heap.{HeapState, Waiting, node_at}
+use Rattle.std.proofs.Common.{◌≡◌, ◌∙◌, Some, None, IsSome, map, deque_items, sym, subst}
+use Rattle.ny_heap.specs.Heap.{HeapState, node_at}
 use Rattle.ny_heap.specs.Reach.{HeapLaws}
-use Rattle.ny_heap.specs.Steps.{AreHeld, waiting_of}
+use Rattle.ny_heap.specs.Steps.{waiting_of}
 use Rattle.ny_heap.specs.View.{branches_of, state_of}
 use Rattle.ny_heap.specs.Revealing.{due_of, HandsOut, Promises}
 use Rattle.ny_heap.specs.Work.{waits_in, without_first}
