@@ -5,7 +5,7 @@ use Rattle.std.specs.Option.{option_map_or}
 use Rattle.std.proofs.lemmas.Bool.{ltb-false}
 use Rattle.ny_num.specs.Grid.{index_at}
 use Rattle.ny_list.proofs.IndexLemmas.{none_some}
-use Rattle.ny_heap.specs.Heap.{Waiting, Node, HeapState, node_at}
+use Rattle.ny_heap.specs.Heap.{Node, HeapState, node_at}
 use Rattle.ny_heap.specs.Steps.{IsSettledUnit}
 use Rattle.ny_heap.specs.Revealing.{needs_part, due_of}
 
