@@ -268,4 +268,5 @@ module _ (code : Code) (D : Trace) (law : IsLawful code D) (old mid : HeapState 
       others = other_is;
       stay = stays;
       held = held_still;
+      marks = new_marks;
     }

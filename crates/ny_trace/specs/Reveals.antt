@@ -13,6 +13,7 @@ use Rattle.ny_hands.specs.declared.branch.Branch.{Branch}
 use Rattle.ny_hands.specs.Calls.{ReleasesAll}
 use Rattle.ny_hands.specs.Counts.{SameCounts}
 use Rattle.ny_hands.specs.Frames.{Names}
+use Rattle.ny_hands.specs.Hands.{marks_at}
 use Rattle.ny_trace.specs.Evaluates.{Trace, NextTurn}
 use Rattle.ny_trace.specs.Heights.{Ranks}
 
@@ -95,6 +96,8 @@ pub record IsRevealed (old new : HeapState Branch) (u : ℕ) : Type 0 where
   pub others : (v : ℕ) (x y : Node Branch) → v ≢ u → node_at old v ≡ Some x → node_at new v ≡ Some y → y ≡ x
   pub stay : (v : ℕ) (x : Node Branch) → v ≢ u → node_at old v ≡ Some x → IsReachable (changed old (Some u) with_promise) v → node_at new v ≡ Some x
   pub held : (s : Sound) → IsHeldSound old s → IsHeldSound new s
+  -- and no other is held
+  pub marks : (v j : ℕ) → marks_at new v j ≡ marks_at old v j
 
 -- all that was there stands as high as it did, and what is new stands below u
 pub record StandsBelow (tall : ℕ → ℕ) (old new : HeapState Branch) (u : ℕ) (rank : ℕ → ℕ) : Type 0 where
