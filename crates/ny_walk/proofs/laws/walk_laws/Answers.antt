@@ -1,0 +1,17 @@
+use Rattle.ny_walk.proofs.TurnLemmas.{walked, stopped, stopped_full, none_waits, never_out}
+use Rattle.ny_walk.proofs.laws.walk_laws.Goals as goal
+
+pub returns-clause-walks : goal.returns-clause-walks
+returns-clause-walks c = λ code n old new u us walk ordered free tall is left there laws settled ranked. walked code n old new u us ordered free tall is left there laws settled ranked walk
+
+pub returns-clause-stops : goal.returns-clause-stops
+returns-clause-stops c = λ code n old new u us walk ordered free tall is left there laws settled ranked. stopped code n old new u us ordered free tall is left there laws settled ranked walk
+
+pub returns-clause-full : goal.returns-clause-full
+returns-clause-full c = λ code n old new u us walk. stopped_full code n old new u us walk
+
+pub returns-clause-quiet : goal.returns-clause-quiet
+returns-clause-quiet c = λ code n old new u us walk none. none_waits code n old new u us walk none
+
+pub returns-clause-enough : goal.returns-clause-enough
+returns-clause-enough c = λ code n old last u us walk none. never_out code n old last u us walk none
