@@ -1,5 +1,5 @@
 -- A fill leaves alone what stands higher than its unit.
-use Rattle.std.proofs.Common.{◌≡◌, ◌⊎◌, inl, inr, ℕ, zero, suc, ◌+◌, Bool, true, false, cond, nat_lt, List, [], ◌∷◌, ◌++◌, map, get_or, slice_get, slice_index, Option, None, Some, sum, refl, sym, ap, subst, ◌∙◌, arith}
+use Rattle.std.proofs.Common.{◌≡◌, ◌⊎◌, inl, inr, ℕ, zero, suc, ◌+◌, Bool, true, false, cond, nat_lt, List, [], ◌∷◌, ◌++◌, ◌<◌, length, map, get_or, slice_get, slice_index, Option, None, Some, sum, refl, sym, ap, subst, ◌∙◌, arith}
 use Rattle.std.proofs.lemmas.Bool.{cases_eq}
 use Rattle.std.specs.List.{fold}
 use Rattle.std.specs.Option.{option_map_or}
@@ -16,6 +16,7 @@ use Rattle.ny_hands.proofs.OptionLemmas.{same_at}
 use Rattle.ny_hands.proofs.HeapLemmas.{reached_stays}
 use Rattle.ny_hands.proofs.HandLemmas.{marks_there, trimmed_marks}
 use Rattle.ny_trace.specs.Heights.{HasRoom, Ranks}
+use Rattle.ny_walk.specs.Parts.{AllPartsOf}
 use Rattle.ny_walk.specs.Below.{IsHeldAbove, Continues, Below, Drives}
 use Rattle.ny_walk.proofs.StayLemmas.{ChangesOne, other_node, high_is_other, high_reached, held_reached}
 
@@ -112,6 +113,18 @@ module _ {B : Type 0} (old new : HeapState B) (u : ℕ) (fills : Fills old new u
             ∙ sym (marks_there old v fills.filled.unit j (ap (node_at old) same ∙ fills.filled.was))
         | inr other ↦ ap (λ o. option_map_or (λ (y : Node B). slice_index y.outside j) o 0) (fills.filled.others v other)
       ]
+
+-- the parts that wait are those that did
+pub fill_parts : (code : Code) (old new : HeapState Branch) (u : ℕ) → Fills old new u → AllPartsOf code old → AllPartsOf code new
+fill_parts code old new u fills all v z at i p is = let x = left_node old new u fills v z at in by_unit x.0 x.1 x.2
+  where
+    by_unit : (x : Node Branch) → node_at old v ≡ Some x → (z ≡ x) ⊎ ((v ≡ u) × (z ≡ filled_node old.block fills.filled.memory x)) → (p.branch.expr.0 < length code.nodes) × (p.branch.env.sound_rate ≡ z.timing.rate)
+    by_unit x there (inl same) =
+        let was = all v x there i p (ap (λ (y : Node Branch). slice_get y.waiting i) (sym same) ∙ is) in
+        (was.0, was.1 ∙ ap (λ (y : Node Branch). y.timing.rate) (sym same))
+    by_unit x there (inr later) =
+        let was = all v x there i p (filled_waiting old.block fills.filled.memory x i p (ap (λ (y : Node Branch). slice_get y.waiting i) (sym later.1) ∙ is)) in
+        (was.0, was.1 ∙ ap (λ (y : Node Branch). y.timing.rate) (sym later.1))
 
 -- ---- what a fill leaves
 

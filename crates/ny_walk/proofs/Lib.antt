@@ -1,8 +1,12 @@
 pub mod BelowLemmas
 pub mod StayLemmas
 pub mod FillLemmas
+pub mod PartsStepLemmas
+pub mod PartsLemmas
 pub mod RevealLemmas
 pub mod WantLemmas
 pub mod WalkLemmas
 pub mod QuietLemmas
+pub mod HeardLemmas
+pub mod DriveLemmas
 pub mod TurnLemmas

@@ -7,20 +7,25 @@ use Rattle.ny_check.specs.Code.{Code}
 use Rattle.ny_heap.specs.Heap.{Waiting, Node, HeapState, node_at}
 use Rattle.ny_heap.specs.Reach.{HeapLaws}
 use Rattle.ny_heap.specs.Steps.{IsSettledUnit, changed, waiting_of}
-use Rattle.ny_heap.specs.Revealing.{needs_part, due_of, with_promise}
+use Rattle.ny_heap.specs.Revealing.{needs_part, due_of, with_promise, with_sounds}
 use Rattle.ny_hands.specs.declared.branch.Branch.{Branch}
 use Rattle.ny_hands.specs.Frames.{part_is}
 use Rattle.ny_hands.specs.Hands.{Later}
+use Rattle.ny_hands.proofs.MarkLemmas.{spent_like}
 use Rattle.ny_hands.proofs.OptionLemmas.{same_at, none_some}
 use Rattle.ny_trace.specs.Evaluates.{Trace}
 use Rattle.ny_trace.specs.Heights.{Ranks, IsRising}
 use Rattle.ny_trace.specs.Laws.{IsLawful}
 use Rattle.ny_trace.specs.Settled.{SettledBut, IsSettling}
-use Rattle.ny_trace.specs.Reveals.{RevealTurn, revealed_node, IsRevealed, StandsBelow}
-use Rattle.ny_trace.proofs.RevealHandLemmas.{promised_here, promised_else, revealed}
+use Rattle.ny_trace.specs.Reveals.{frame, RevealTurn, revealed_node, IsRevealed, StandsBelow}
+use Rattle.ny_trace.proofs.LeftLemmas.{sounds_like}
+use Rattle.ny_trace.proofs.RevealHandLemmas.{promised, promised_here, promised_else, new_else, revealed}
 use Rattle.ny_trace.proofs.RevealLemmas.{reveal_later}
 use Rattle.ny_trace.proofs.RisingRevealLemmas.{revealed_stands}
 use Rattle.ny_trace.proofs.SettlingRevealLemmas.{revealed_settled}
+use Rattle.ny_walk.specs.Parts.{AllPartsOf, IsMakingParts}
+use Rattle.ny_walk.proofs.PartsStepLemmas.{parts_like, parts_released}
+use Rattle.ny_walk.proofs.PartsLemmas.{next_parts}
 use Rattle.ny_walk.specs.Below.{IsSettled, SettledButOne, IsHeldAbove, Continues, Below, Revealed}
 use Rattle.ny_walk.proofs.StayLemmas.{ChangesOne, high_reached, held_reached}
 
@@ -61,7 +66,7 @@ module _ (code : Code) (tall : ℕ → ℕ) (old new : HeapState Branch) (laws :
 
 -- ---- a turn
 
-module _ (code : Code) (D : Trace) (law : IsLawful code D) (tall : ℕ → ℕ) (rising : IsRising code tall D) (settles : IsSettling D) (old new : HeapState Branch) (u : ℕ) (turn : RevealTurn D old new u) (laws : HeapLaws old) (inside : turn.part.branch.expr.0 < length code.nodes) where
+module _ (code : Code) (D : Trace) (law : IsLawful code D) (tall : ℕ → ℕ) (rising : IsRising code tall D) (settles : IsSettling D) (makes : IsMakingParts code D) (old new : HeapState Branch) (u : ℕ) (turn : RevealTurn D old new u) (laws : HeapLaws old) (inside : turn.part.branch.expr.0 < length code.nodes) where
   shows : IsRevealed old new u
   shows = revealed code D law old turn.mid u turn.sound turn.part laws inside new turn.attaches
 
@@ -74,10 +79,48 @@ module _ (code : Code) (D : Trace) (law : IsLawful code D) (tall : ℕ → ℕ) 
   fewer_of : (ws : List (Waiting Branch)) (p : Waiting Branch) (rest : List (Waiting Branch)) → ws ≡ p ∷ rest → length (drop 1 ws) < length ws
   fewer_of ws p rest is = subst (λ (qs : List (Waiting Branch)). length (drop 1 qs) < length qs) (sym is) (omega arith)
 
+  -- ---- the parts that wait
+
+  promised_parts : AllPartsOf code old → AllPartsOf code (promised old u)
+  promised_parts all v y at i p is = elim (cases_eq v u) [
+    | inl same ↦
+        let now : with_promise turn.part.takes.hands.unit ≡ y = same_at (node_at (promised old u) u) (with_promise turn.part.takes.hands.unit) y (promised_here old u turn.part.takes.hands.unit turn.part.takes.hands.was laws) (ap (node_at (promised old u)) (sym same) ∙ at) in
+        let was = all u turn.part.takes.hands.unit turn.part.takes.hands.was (suc i) p (sym (later_of turn.part.takes.hands.unit.waiting (waiting_of (turn.part.branch, turn.part.captured)) turn.part.takes.hands.rest turn.part.takes.hands.waits i) ∙ (ap (λ (z : Node Branch). slice_get z.waiting i) now ∙ is)) in
+        (was.0, was.1 ∙ ap (λ (z : Node Branch). z.timing.rate) now)
+    | inr other ↦ all v y (sym (promised_else old u turn.part.takes.hands.unit turn.part.takes.hands.was laws v other) ∙ at) i p is
+  ]
+    where
+      later_of : (ws : List (Waiting Branch)) (w : Waiting Branch) (rest : List (Waiting Branch)) → ws ≡ w ∷ rest → (i : ℕ) → slice_get (drop 1 ws) i ≡ slice_get ws (suc i)
+      later_of ws w rest is i = ap (λ (qs : List (Waiting Branch)). slice_get (drop 1 qs) i) is ∙ ap (λ (qs : List (Waiting Branch)). slice_get qs (suc i)) (sym is)
+
+  one_parts : AllPartsOf code old → AllPartsOf code turn.part.one
+  one_parts all =
+      subst (λ (h : HeapState Branch). AllPartsOf code h) (sym turn.part.takes.hands.heap)
+      (parts_like code (promised old u) (with_sounds (promised old u) turn.part.captured) (λ v y at. let x = (sounds_like (promised old u) turn.part.captured).from v y at in (x.0, x.1, x.2)) (promised_parts all))
+
+  mid_parts : AllPartsOf code old → AllPartsOf code turn.mid
+  mid_parts all =
+      let b = turn.part.branch in
+      parts_released code turn.part.two turn.mid turn.part.captured turn.part.given_up
+      (next_parts code D makes b.env turn.part.takes.hands.unit.last_stop (b.expr, frame b.env.sound_rate turn.part.captured b.names) turn.part.one turn.part.two turn.sound inside turn.part.evaluates (one_parts all))
+
+  turn_parts : AllPartsOf code old → AllPartsOf code new
+  turn_parts all v y at i p is = elim (cases_eq v u) [
+    | inl same ↦
+        let now : revealed_node shows.part shows.unit ≡ y = same_at (node_at new u) (revealed_node shows.part shows.unit) y shows.after (ap (node_at new) (sym same) ∙ at) in
+        let was = promised_parts all u (with_promise shows.unit) (promised_here old u shows.unit shows.was laws) i p (ap (λ (z : Node Branch). slice_get z.waiting i) now ∙ is) in
+        (was.0, was.1 ∙ ap (λ (z : Node Branch). z.timing.rate) now)
+    | inr other ↦
+        let m = (spent_like turn.mid (turn.sound ∷ [])).from v y (sym (new_else code D law old turn.mid u turn.sound turn.part laws inside new turn.attaches v other) ∙ at) in
+        let was = mid_parts all v m.0 m.1 i p (sym (ap (λ (z : Node Branch). slice_get z.waiting i) m.2) ∙ is) in
+        (was.0, was.1 ∙ sym (ap (λ (z : Node Branch). z.timing.rate) m.2))
+  ]
+
   pub turn_reveals : Revealed code tall old new u
   turn_reveals = record {
     laws = shows.laws;
     settled = λ all. revealed_settled code D law settles old new u turn laws inside (λ v. nat_eq v u) (eq-eqb u u refl) all;
+    parts = turn_parts;
     unit = shows.unit;
     was = shows.was;
     later = revealed_node shows.part shows.unit;

@@ -14,7 +14,11 @@ use Rattle.ny_trace.proofs.RisingEvaluationLemmas.{evaluates_rising}
 use Rattle.ny_trace.proofs.SettlingLemmas.{evaluates_settling}
 use Rattle.ny_walk.specs.Walk.{EvaluatesIn, PartTurn, Walks}
 use Rattle.ny_walk.specs.Stops.{StopsAtFull, RunsOut, NoneWaits}
+use Rattle.ny_walk.specs.Parts.{IsMakingParts}
 use Rattle.ny_walk.specs.Below.{IsSettled, IsRanked, Walked, Stopped, Revealed}
+use Rattle.ny_walk.specs.Heard.{StaysHeard}
+use Rattle.ny_walk.proofs.HeardLemmas.{stays_heard}
+use Rattle.ny_walk.proofs.PartsLemmas.{evaluates_parts}
 use Rattle.ny_walk.proofs.RevealLemmas.{turn_reveals}
 use Rattle.ny_walk.proofs.WalkLemmas.{walk_leaves, stop_leaves, stops_full}
 use Rattle.ny_walk.proofs.QuietLemmas.{quiet_walk, quiet_enough}
@@ -28,9 +32,12 @@ rising_in code ordered free tall is e env names old new s t inside laws named ra
 settling_in : (code : Code) → IsSettling (EvaluatesIn code)
 settling_in code e env names old new s t but all = evaluates_settling code t.0 e env names old new s t.1 but all
 
+making_in : (code : Code) → IsOrdered code → IsMakingParts code (EvaluatesIn code)
+making_in code ordered e env names old new s t inside all = evaluates_parts code ordered t.0 e env names old new s t.1 inside all
+
 pub part_reveals : (code : Code) → IsOrdered code → KeepsFree code → (tall : ℕ → ℕ) → IsTall code tall → (old new : HeapState Branch) (u : ℕ) → HeapLaws old → PartTurn code old u new → Revealed code tall old new u
 part_reveals code ordered free tall is old new u laws part =
-    turn_reveals code (EvaluatesIn code) (lawful_in code ordered free) tall (rising_in code ordered free tall is) (settling_in code) old new u part.turn laws part.inside
+    turn_reveals code (EvaluatesIn code) (lawful_in code ordered free) tall (rising_in code ordered free tall is) (settling_in code) (making_in code ordered) old new u part.turn laws part.inside
 
 pub part_waits : (code : Code) (old new : HeapState Branch) (u : ℕ) → PartTurn code old u new → (x : Node Branch) × (node_at old u ≡ Some x) × (0 < length x.waiting)
 part_waits code old new u part =
@@ -50,6 +57,15 @@ module _ (code : Code) (n : ℕ) (old new : HeapState Branch) (u : ℕ) (us : Li
   stopped ordered free tall is left there laws settled ranked walk =
       let x = some_there (node_at old u) there in
       stop_leaves code tall (PartTurn code) (part_reveals code ordered free tall is) n old new u left us x.0 x.1 laws settled ranked walk
+
+  pub walked_heard : IsOrdered code → KeepsFree code → (tall : ℕ → ℕ) → IsTall code tall → (left : ℕ) → IsSome (node_at old u) → HeapLaws old → IsSettled old → IsRanked tall old u left → Walks code n old u us new → StaysHeard code old new
+  walked_heard ordered free tall is left there laws settled ranked walk =
+      let d = (walked ordered free tall is left there laws settled ranked walk).drives ranked.rank ranked.ranks in
+      stays_heard code tall old new ranked.rank (ranked.rank u + 1) d.below
+
+  pub stopped_heard : IsOrdered code → KeepsFree code → (tall : ℕ → ℕ) → IsTall code tall → (left : ℕ) → IsSome (node_at old u) → HeapLaws old → IsSettled old → IsRanked tall old u left → StopsAtFull code n old u us new → StaysHeard code old new
+  stopped_heard ordered free tall is left there laws settled ranked walk =
+      stays_heard code tall old new ranked.rank (ranked.rank u) ((stopped ordered free tall is left there laws settled ranked walk).below ranked.rank ranked.ranks)
 
   pub stopped_full : StopsAtFull code n old u us new → free_of new ≡ 0
   stopped_full walk = stops_full (PartTurn code) n old new u us walk

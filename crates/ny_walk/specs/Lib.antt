@@ -1,3 +1,5 @@
 pub mod Walk
 pub mod Stops
+pub mod Parts
 pub mod Below
+pub mod Heard

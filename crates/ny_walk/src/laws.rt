@@ -1,4 +1,4 @@
-ghost use Rattle.std.specs.Prelude.{◌≡◌, ℕ, List, IsSome};
+ghost use Rattle.std.specs.Prelude.{◌≡◌, ◌⊎◌, ℕ, List, IsSome};
 ghost use Rattle.ny_check.specs.Code.{Code, IsOrdered};
 ghost use Rattle.ny_heap.specs.Heap.{HeapState, node_at, free_of};
 ghost use Rattle.ny_heap.specs.Reach.{HeapLaws};
@@ -8,6 +8,7 @@ ghost use Rattle.ny_trace.specs.Laws.{KeepsFree};
 ghost use Rattle.ny_walk.specs.Walk.{Walks};
 ghost use Rattle.ny_walk.specs.Stops.{StopsAtFull, RunsOut, NoneWaits};
 ghost use Rattle.ny_walk.specs.Below.{IsSettled, IsRanked, Walked, Stopped};
+ghost use Rattle.ny_walk.specs.Heard.{StaysHeard};
 
 /// The laws of a walk (`docs/DEFINITIONS.md`, "The walk"), however deep it is.
 pub fn walk_laws()
@@ -15,6 +16,8 @@ pub fn walk_laws()
     ensures walks { (code : Code) (n : ℕ) (old new : HeapState Branch) (u : ℕ) (us : List ℕ) → Walks code n old u us new → IsOrdered code → KeepsFree code → (tall : ℕ → ℕ) → IsTall code tall → (left : ℕ) → IsSome (node_at old u) → HeapLaws old → IsSettled old → IsRanked tall old u left → Walked code tall old new u }
     // So it is where the walk stops, but the unit has no block more.
     ensures stops { (code : Code) (n : ℕ) (old new : HeapState Branch) (u : ℕ) (us : List ℕ) → StopsAtFull code n old u us new → IsOrdered code → KeepsFree code → (tall : ℕ → ℕ) → IsTall code tall → (left : ℕ) → IsSome (node_at old u) → HeapLaws old → IsSettled old → IsRanked tall old u left → Stopped code tall old new u }
+    // Who has a sound in hand hears the same from it.
+    ensures heard { (code : Code) (n : ℕ) (old new : HeapState Branch) (u : ℕ) (us : List ℕ) → Walks code n old u us new ⊎ StopsAtFull code n old u us new → IsOrdered code → KeepsFree code → (tall : ℕ → ℕ) → IsTall code tall → (left : ℕ) → IsSome (node_at old u) → HeapLaws old → IsSettled old → IsRanked tall old u left → StaysHeard code old new }
     // It stops where no block is free.
     ensures full { (code : Code) (n : ℕ) (old new : HeapState Branch) (u : ℕ) (us : List ℕ) → StopsAtFull code n old u us new → free_of new ≡ 0 }
     // Where no part waits none waits afterwards, and memory is not missing.

@@ -1,4 +1,5 @@
-use Rattle.ny_walk.proofs.TurnLemmas.{walked, stopped, stopped_full, none_waits, never_out}
+use Rattle.std.proofs.Common.{ℕ, List, inl, inr, ◌⊎◌}
+use Rattle.ny_walk.proofs.TurnLemmas.{walked, stopped, walked_heard, stopped_heard, stopped_full, none_waits, never_out}
 use Rattle.ny_walk.proofs.laws.walk_laws.Goals as goal
 
 pub returns-clause-walks : goal.returns-clause-walks
@@ -15,3 +16,9 @@ returns-clause-quiet c = λ code n old new u us walk none. none_waits code n old
 
 pub returns-clause-enough : goal.returns-clause-enough
 returns-clause-enough c = λ code n old last u us walk none. never_out code n old last u us walk none
+
+pub returns-clause-heard : goal.returns-clause-heard
+returns-clause-heard c = λ code n old new u us walk ordered free tall is left there laws settled ranked. elim walk [
+  | inl ends ↦ walked_heard code n old new u us ordered free tall is left there laws settled ranked ends
+  | inr stops ↦ stopped_heard code n old new u us ordered free tall is left there laws settled ranked stops
+]
