@@ -70,9 +70,11 @@ module _ {B : Type 0} (old new : HeapState B) (u : ℕ) (fills : Fills old new u
   -- a unit that is left, by what it was
   pub left_node : (v : ℕ) (z : Node B) → node_at new v ≡ Some z → (x : Node B) × (node_at old v ≡ Some x) × ((z ≡ x) ⊎ ((v ≡ u) × (z ≡ filled_node old.block fills.filled.memory x)))
   left_node v z at = elim (cases_eq v u) [
-    | inl same ↦
-        (fills.filled.unit, ap (node_at old) same ∙ fills.filled.was,
-        inr (same, same_at (node_at fills.between v) z (filled_node old.block fills.filled.memory fills.filled.unit) (fills.trimmed.kept v z at) (ap (node_at fills.between) same ∙ fills.filled.after)))
+    | inl same ↦ (
+      fills.filled.unit,
+      ap (node_at old) same ∙ fills.filled.was,
+      inr (same, same_at (node_at fills.between v) z (filled_node old.block fills.filled.memory fills.filled.unit) (fills.trimmed.kept v z at) (ap (node_at fills.between) same ∙ fills.filled.after)),
+    )
     | inr other ↦ (z, sym (fills.filled.others v other) ∙ fills.trimmed.kept v z at, inl refl)
   ]
 
