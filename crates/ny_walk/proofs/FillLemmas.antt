@@ -10,15 +10,14 @@ use Rattle.ny_heap.specs.Reach.{Uses, Read, Hold, HeapLaws}
 use Rattle.ny_heap.specs.Steps.{Fills, filled_node, moved}
 use Rattle.ny_hands.specs.Frames.{part_is}
 use Rattle.ny_hands.specs.Hands.{marks_at}
-use Rattle.ny_hands.specs.Ranks.{IsRank}
 use Rattle.ny_hands.specs.declared.branch.Branch.{Branch}
 use Rattle.ny_hands.proofs.OptionLemmas.{same_at}
 use Rattle.ny_hands.proofs.HeapLemmas.{reached_stays}
 use Rattle.ny_hands.proofs.HandLemmas.{marks_there, trimmed_marks}
-use Rattle.ny_trace.specs.Heights.{HasRoom, Ranks}
+use Rattle.ny_trace.specs.Heights.{Ranks}
 use Rattle.ny_walk.specs.Parts.{AllPartsOf}
-use Rattle.ny_walk.specs.Below.{IsHeldAbove, Continues, Below, Drives}
-use Rattle.ny_walk.proofs.StayLemmas.{ChangesOne, other_node, high_is_other, high_reached, held_reached}
+use Rattle.ny_walk.specs.Below.{Continues, Drives}
+use Rattle.ny_walk.proofs.StayLemmas.{ChangesOne, high_reached, held_reached}
 
 -- an input of the filled unit is one that it had
 moved_of : {B : Type 0} (block done : ℕ) (x : Node B) (o : Option Reader) (r : Reader) → moved block x done o ≡ Some r → (s : Reader) × (o ≡ Some s) × (s.node ≡ r.node)

@@ -1,14 +1,13 @@
 -- Who has a sound in hand hears the same from it, whatever is filled and revealed below.
-use Rattle.std.proofs.Common.{◌≡◌, inl, ℕ, zero, suc, ◌+◌, ◌*◌, ◌<◌, ◌≤◌, min, List, [], ◌∷◌, slice_index, Option, None, Some, sum, refl, sym, ap, subst, ◌∙◌, arith}
+use Rattle.std.proofs.Common.{◌≡◌, inl, ℕ, ◌*◌, ◌<◌, ◌≤◌, [], slice_index, Option, None, Some, sum, refl, sym, ap, subst, arith}
 use Rattle.std.proofs.lemmas.Nat.{mul-le}
 use Rattle.std.specs.Option.{option_map_or}
 use Rattle.ny_num.specs.declared.timing.Timing.{Timing}
 use Rattle.ny_check.specs.Code.{Code}
 use Rattle.ny_heap.specs.declared.sound.Sound.{Sound}
-use Rattle.ny_heap.specs.Heap.{Node, HeapState, node_at, list_of, place_of, stands_in, computed_of}
+use Rattle.ny_heap.specs.Heap.{Node, HeapState, node_at, list_of, place_of, stands_in}
 use Rattle.ny_heap.specs.Steps.{IsHeldAt, IsHeldSound}
 use Rattle.ny_hands.specs.declared.branch.Branch.{Branch}
-use Rattle.ny_hands.specs.Hands.{marks_at}
 use Rattle.ny_hands.proofs.HeapLemmas.{mark_counts}
 use Rattle.ny_hands.proofs.HandLemmas.{marks_there}
 use Rattle.ny_hands.proofs.MarkLemmas.{sums_le}

@@ -1,7 +1,6 @@
 -- Evaluation leaves no part waiting but expressions of the program.
-use Rattle.std.proofs.Common.{◌≡◌, ◌⊎◌, inl, inr, ℕ, zero, suc, ◌+◌, ◌*◌, ◌≤◌, List, [], ◌∷◌, ◌++◌, map, Option, None, Some, refl, sym, ap, subst, ◌∙◌, arith, length, replicate, ◌<◌, take}
-use Rattle.std.specs.Prelude.{zip, get_or, slice_get, if◌then◌else◌, Bool, true, false, ℤ, pos}
-use Rattle.std.proofs.lemmas.Bool.{cases_eq}
+use Rattle.std.proofs.Common.{◌≡◌, inl, inr, ℕ, zero, suc, List, [], ◌∷◌, ◌++◌, map, Option, None, Some, refl, sym, ap, subst, ◌∙◌, arith, length, replicate, ◌<◌, take}
+use Rattle.std.specs.Prelude.{zip, slice_get, if◌then◌else◌, Bool, true, false, pos}
 use Rattle.std.proofs.lemmas.List.{length-replicate}
 use Rattle.ny_num.specs.Grid.{index_at}
 use Rattle.ny_num.specs.declared.rate.Rate.{Rate}
@@ -25,11 +24,9 @@ use Rattle.ny_check.specs.Values.{scalars_of, number_of, test_of}
 use Rattle.ny_check.specs.Behaviours.{is_one, cue_timing}
 use Rattle.ny_check.specs.Families.{changed_env}
 use Rattle.ny_heap.specs.declared.sound.Sound.{Sound}
-use Rattle.ny_heap.specs.Heap.{Kind, Node, Waiting, HeapState, node_at, list_of, place_of}
-use Rattle.ny_heap.specs.Reach.{IsTrimmed}
-use Rattle.ny_heap.specs.Steps.{waiting_of, last_stop_of, new_node}
+use Rattle.ny_heap.specs.Heap.{Waiting, HeapState}
+use Rattle.ny_heap.specs.Steps.{waiting_of}
 use Rattle.ny_hands.proofs.OptionLemmas.{same_at}
-use Rattle.ny_hands.proofs.HeapLemmas.{Length, Empty, Long, length_of}
 use Rattle.std.specs.List.{range_with_len}
 use Rattle.ny_num.specs.Sound.{spanning, timing_of}
 use Rattle.ny_num.specs.Sound as sounds
@@ -41,14 +38,10 @@ use Rattle.ny_check.proofs.MeaningEquation.{meaning-is}
 use Rattle.ny_timing.specs.Timings.{timed, timed_value}
 use Rattle.ny_trace.proofs.EvaluationLemmas.{below_all, below_binds}
 use Rattle.ny_hands.specs.declared.branch.Branch.{Branch}
-use Rattle.ny_hands.specs.Calls.{Shares, Places, MakesUnit, ReleasesAll, Brings, Stay, Change, BringsEach, IsSilent}
 use Rattle.ny_hands.specs.Frames.{Names, sounds_among}
-use Rattle.ny_trace.specs.Evaluates.{Trace, Part, parts_of, counted_parts, LouderTurn, NameTurn, ValueTurn, BindsTurn, ValuesTurn, JoinTurn, PartsTurn, SimTurn, NextTurn, NextsTurn, KeepTurn, KeepsTurn, counted_names, timed_in, times_in, sounds_of_values, WaitsTurn, SeqTurn, NodeTurn, Evaluates}
-use Rattle.ny_walk.specs.Parts.{HasPartsOf, AllPartsOf, IsMakingParts}
+use Rattle.ny_trace.specs.Evaluates.{Trace, Part, parts_of, counted_parts, NameTurn, ValueTurn, BindsTurn, ValuesTurn, JoinTurn, PartsTurn, SimTurn, NextTurn, NextsTurn, counted_names, timed_in, times_in, sounds_of_values, WaitsTurn, SeqTurn, NodeTurn, Evaluates}
+use Rattle.ny_walk.specs.Parts.{AllPartsOf, IsMakingParts}
 use Rattle.ny_walk.proofs.PartsStepLemmas.{parts_released, parts_shared, parts_made, parts_plain, parts_brought, parts_brings, parts_placed, parts_silent, parts_waits, parts_louder}
-use Rattle.ny_hands.proofs.MarkLemmas.{spent_like, marked_like}
-use Rattle.ny_trace.proofs.HeightLemmas.{ComesFrom, from_trimmed}
-use Rattle.ny_trace.proofs.RisingSeqLemmas.{from_shared}
 
 mix_timing-rate : (r : Rate) (ts : List Timing) → (mix_timing r ts).rate ≡ r
 unfolding mix_timing spanning

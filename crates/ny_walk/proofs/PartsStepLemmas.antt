@@ -1,40 +1,28 @@
 -- What calls of a heap do to the parts that wait.
-use Rattle.std.proofs.Common.{◌≡◌, ◌⊎◌, inl, inr, ℕ, zero, suc, ◌+◌, ◌*◌, ◌≤◌, List, [], ◌∷◌, ◌++◌, map, Option, None, Some, refl, sym, ap, subst, ◌∙◌, arith, length, take}
-use Rattle.std.specs.Prelude.{zip, get_or, slice_get, if◌then◌else◌, Bool, true, false, ℤ, pos}
+use Rattle.std.proofs.Common.{◌≡◌, inl, inr, ℕ, suc, List, [], ◌∷◌, Option, None, Some, sym, ap, subst, ◌∙◌}
+use Rattle.std.specs.Prelude.{get_or, slice_get, Bool, true, false, ℤ}
 use Rattle.std.proofs.lemmas.Bool.{cases_eq}
-use Rattle.ny_num.specs.Grid.{index_at}
 use Rattle.ny_num.specs.declared.rate.Rate.{Rate}
 use Rattle.ny_num.specs.declared.timing.Timing.{Timing}
 use Rattle.ny_warp.specs.declared.env.Env.{Env}
-use Rattle.ny_num.specs.Sound.{placed_timing}
-use Rattle.ny_resolve.specs.declared.builtin.Order.TheVariants as order
-use Rattle.ny_warp.specs.Environment.{from_stop}
 use Rattle.ny_scope.specs.Scopes.{last_of}
 use Rattle.ny_resolve.specs.declared.term.NameId.{NameId}
 use Rattle.ny_resolve.specs.Keys.{same_name}
-use Rattle.ny_kernels.specs.declared.operation.Op.{Op}
-use Rattle.ny_kernels.specs.declared.operation.Op.TheVariants.{Sub}
-use Rattle.ny_check.specs.declared.node.Node.{Node as NodeOf}
-use Rattle.ny_check.specs.declared.node.Node.TheVariants as node
-use Rattle.ny_check.specs.declared.node.ExprId.{ExprId}
 use Rattle.ny_check.specs.declared.value.Value.{Value}
 use Rattle.ny_check.specs.declared.value.Value.TheVariants.{Number, Sound as SoundOf}
-use Rattle.ny_check.specs.Code.{Code, node_at as node_in, function_at}
-use Rattle.ny_check.specs.Values.{scalars_of, number_of, test_of}
-use Rattle.ny_check.specs.Behaviours.{is_one, cue_timing}
-use Rattle.ny_check.specs.Families.{changed_env}
+use Rattle.ny_check.specs.Code.{Code}
 use Rattle.ny_heap.specs.declared.sound.Sound.{Sound}
-use Rattle.ny_heap.specs.Heap.{Kind, Node, Waiting, HeapState, node_at, list_of, place_of}
+use Rattle.ny_heap.specs.Heap.{Kind, Node, Waiting, HeapState, node_at}
 use Rattle.ny_heap.specs.Reach.{IsTrimmed}
-use Rattle.ny_heap.specs.Steps.{waiting_of, last_stop_of, new_node, without_sounds}
+use Rattle.ny_heap.specs.Steps.{new_node, without_sounds}
 use Rattle.ny_hands.proofs.OptionLemmas.{same_at}
 use Rattle.ny_hands.proofs.HeapLemmas.{Length, Empty, Long, length_of}
 use Rattle.ny_hands.specs.declared.branch.Branch.{Branch}
 use Rattle.ny_hands.specs.Calls.{Shares, Places, MakesUnit, ReleasesAll, Brings, Stay, Change, BringsEach, IsSilent}
-use Rattle.ny_hands.specs.Frames.{Names, sounds_among}
-use Rattle.ny_trace.specs.Evaluates.{Trace, Part, parts_of, counted_parts, LouderTurn, NameTurn, ValueTurn, BindsTurn, ValuesTurn, JoinTurn, PartsTurn, SimTurn, NextsTurn, KeepTurn, KeepsTurn, sounds_of_values, WaitsTurn, SeqTurn, NodeTurn, Evaluates}
+use Rattle.ny_hands.specs.Frames.{Names}
+use Rattle.ny_trace.specs.Evaluates.{Part, LouderTurn, KeepTurn, KeepsTurn, WaitsTurn}
 use Rattle.ny_walk.specs.Parts.{HasPartsOf, AllPartsOf}
-use Rattle.ny_hands.proofs.MarkLemmas.{spent_like, marked_like}
+use Rattle.ny_hands.proofs.MarkLemmas.{spent_like}
 use Rattle.ny_trace.proofs.HeightLemmas.{ComesFrom, from_trimmed}
 use Rattle.ny_trace.proofs.RisingSeqLemmas.{from_shared}
 

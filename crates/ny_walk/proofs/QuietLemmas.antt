@@ -1,12 +1,12 @@
 -- Where no part waits, a walk fills units alone.
-use Rattle.std.proofs.Common.{◌≡◌, ◌⊎◌, inl, inr, ℕ, zero, suc, ◌+◌, ◌<◌, Bool, true, false, cond, nat_lt, List, [], ◌∷◌, length, slice_get, None, Some, refl, sym, ap, subst, ◌∙◌, arith}
+use Rattle.std.proofs.Common.{◌≡◌, ◌⊎◌, inl, inr, ℕ, zero, suc, ◌+◌, ◌<◌, Bool, true, false, cond, nat_lt, List, [], ◌∷◌, length, slice_get, None, Some, refl, ap, subst, ◌∙◌, arith}
 use Rattle.std.specs.Option.{option_map_or}
 use Rattle.ny_heap.specs.Heap.{Waiting, Node, HeapState, node_at, blocks_of}
 use Rattle.ny_heap.specs.Steps.{Fills, filled_node}
 use Rattle.ny_heap.specs.Revealing.{needs_part, due_of}
 use Rattle.ny_hands.specs.declared.branch.Branch.{Branch}
 use Rattle.ny_walk.specs.Walk.{Reveal, Walk, RevealsParts, WalksWants, FillsThen, WalksInOrder}
-use Rattle.ny_walk.specs.Stops.{DueThen, DueBelow, DueInOrder, NoneWaits}
+use Rattle.ny_walk.specs.Stops.{DueInOrder, NoneWaits}
 use Rattle.ny_walk.proofs.FillLemmas.{left_node}
 
 quiet_fill : {B : Type 0} (old new : HeapState B) (u : ℕ) → Fills old new u → NoneWaits old → NoneWaits new

@@ -1,5 +1,5 @@
 -- A part that is revealed leaves alone what stands higher than its unit.
-use Rattle.std.proofs.Common.{◌≡◌, ◌≢◌, ◌⊎◌, inl, inr, ℕ, zero, suc, ◌+◌, ◌*◌, ◌<◌, ◌≤◌, Bool, true, false, cond, nat_lt, nat_eq, List, [], ◌∷◌, length, drop, slice_get, Option, None, Some, refl, sym, ap, subst, ◌∙◌, arith}
+use Rattle.std.proofs.Common.{◌≡◌, ◌≢◌, ◌⊎◌, inl, inr, ℕ, suc, ◌+◌, ◌*◌, ◌<◌, ◌≤◌, Bool, true, false, cond, nat_eq, List, [], ◌∷◌, length, drop, slice_get, Option, None, Some, refl, sym, ap, subst, ◌∙◌, arith}
 use Rattle.std.proofs.lemmas.Bool.{cases_eq, eq-eqb, ne_eqb, ltb-false}
 use Rattle.std.specs.Option.{option_map_or}
 use Rattle.ny_num.specs.Grid.{index_at}
@@ -12,11 +12,11 @@ use Rattle.ny_hands.specs.declared.branch.Branch.{Branch}
 use Rattle.ny_hands.specs.Frames.{part_is}
 use Rattle.ny_hands.specs.Hands.{Later}
 use Rattle.ny_hands.proofs.MarkLemmas.{spent_like}
-use Rattle.ny_hands.proofs.OptionLemmas.{same_at, none_some}
+use Rattle.ny_hands.proofs.OptionLemmas.{same_at}
 use Rattle.ny_trace.specs.Evaluates.{Trace}
 use Rattle.ny_trace.specs.Heights.{Ranks, IsRising}
 use Rattle.ny_trace.specs.Laws.{IsLawful}
-use Rattle.ny_trace.specs.Settled.{SettledBut, IsSettling}
+use Rattle.ny_trace.specs.Settled.{IsSettling}
 use Rattle.ny_trace.specs.Reveals.{frame, RevealTurn, revealed_node, IsRevealed, StandsBelow}
 use Rattle.ny_trace.proofs.LeftLemmas.{sounds_like}
 use Rattle.ny_trace.proofs.RevealHandLemmas.{promised, promised_here, promised_else, new_else, revealed}

@@ -1,5 +1,5 @@
 -- A part of the program that is revealed, and a walk of such turns.
-use Rattle.std.proofs.Common.{◌≡◌, ℕ, ◌+◌, ◌<◌, List, [], ◌∷◌, length, Some, IsSome, refl, sym, ap, subst, ◌∙◌, arith}
+use Rattle.std.proofs.Common.{◌≡◌, ℕ, ◌+◌, ◌<◌, List, ◌∷◌, length, Some, IsSome, sym, subst, arith}
 use Rattle.ny_check.specs.Code.{Code, IsOrdered}
 use Rattle.ny_heap.specs.Heap.{Waiting, Node, HeapState, node_at, free_of}
 use Rattle.ny_heap.specs.Reach.{HeapLaws}

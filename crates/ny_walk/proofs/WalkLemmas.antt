@@ -1,16 +1,16 @@
 -- What each round of a walk leaves, and so the whole walk.
-use Rattle.std.proofs.Common.{◌≡◌, ◌≢◌, ◌⊎◌, inl, inr, ℕ, zero, suc, ◌+◌, ◌-◌, ◌<◌, ◌≤◌, true, false, nat_eq, IsTrue, IsSomeAnd, List, [], ◌∷◌, ◌++◌, None, Some, refl, sym, ap, subst, ◌∙◌, arith}
+use Rattle.std.proofs.Common.{◌≡◌, ◌≢◌, ◌⊎◌, inl, inr, ℕ, zero, suc, ◌+◌, ◌-◌, ◌<◌, true, false, nat_eq, IsTrue, IsSomeAnd, List, Some, refl, sym, ap, subst, ◌∙◌, arith}
 use Rattle.std.proofs.lemmas.Bool.{eq-eqb}
 use Rattle.ny_check.specs.Code.{Code}
-use Rattle.ny_heap.specs.Heap.{Memory, Node, HeapState, node_at, is_open, free_of}
+use Rattle.ny_heap.specs.Heap.{Node, HeapState, node_at, is_open, free_of}
 use Rattle.ny_heap.specs.Reach.{HeapLaws}
 use Rattle.ny_heap.specs.Steps.{IsSettledUnit, want_of, filled_node}
 use Rattle.ny_hands.specs.declared.branch.Branch.{Branch}
 use Rattle.ny_hands.proofs.OptionLemmas.{same_at, some_there, and_some}
 use Rattle.ny_trace.specs.Heights.{Ranks}
-use Rattle.ny_walk.specs.Walk.{FillTurn, Reveal, Walk, RevealsParts, WalksWants, FillsThen, WalksThen, WalksInOrder}
+use Rattle.ny_walk.specs.Walk.{FillTurn, Reveal, Walk, RevealsParts, WalksWants, FillsThen, WalksInOrder}
 use Rattle.ny_walk.specs.Stops.{StopsHere, StopsBelow, StopsThen, StopsInOrder}
-use Rattle.ny_walk.specs.Below.{IsSettled, SettledButOne, IsRanked, Below, Drives, Walked, Stopped, Revealed, WantsSoFar, RevealsSoFar}
+use Rattle.ny_walk.specs.Below.{IsSettled, SettledButOne, IsRanked, Below, Walked, Stopped, Revealed, WantsSoFar, RevealsSoFar}
 use Rattle.ny_walk.proofs.BelowLemmas.{held_above, Below-none, Below-more, Below-wider}
 use Rattle.ny_walk.proofs.FillLemmas.{left_node, fill_parts, Fills-drives}
 use Rattle.ny_walk.proofs.RevealLemmas.{all_settled}

@@ -1,4 +1,4 @@
-use Rattle.std.proofs.Common.{ℕ, List, inl, inr, ◌⊎◌}
+use Rattle.std.proofs.Common.{inl, inr}
 use Rattle.ny_walk.proofs.TurnLemmas.{walked, stopped, walked_heard, stopped_heard, stopped_full, none_waits, never_out}
 use Rattle.ny_walk.proofs.laws.walk_laws.Goals as goal
 
