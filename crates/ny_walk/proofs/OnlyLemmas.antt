@@ -1,5 +1,5 @@
 -- A walk is the only one from its heap: two that end fill the same units, and none both ends and stops.
-use Rattle.std.proofs.Common.{◌≡◌, ◌⊎◌, inl, inr, ℕ, zero, suc, ◌<◌, List, [], ◌∷◌, ◌++◌, None, Some, refl, sym, ap, subst, ◌∙◌, arith}
+use Rattle.std.proofs.Common.{◌≡◌, ◌⊎◌, inl, inr, ℕ, zero, suc, ◌<◌, List, [], ◌∷◌, ◌++◌, None, Some, sym, ap, subst, ◌∙◌, arith}
 use Rattle.ny_heap.specs.Heap.{HeapState}
 use Rattle.ny_heap.specs.Steps.{want_of}
 use Rattle.ny_walk.specs.Fills.{FillsWants, FillsThen, FillsInOrder, StopsThen, StopsInOrder}

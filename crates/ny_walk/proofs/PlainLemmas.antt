@@ -1,5 +1,5 @@
 -- Where no part waits, a walk is one of fills alone, so that from one heap none both ends and stops.
-use Rattle.std.proofs.Common.{◌≡◌, ◌<◌, ◌⊎◌, inl, inr, ℕ, zero, suc, List, [], ◌∷◌, ◌++◌, length, None, Some, refl, sym, subst, ◌∙◌}
+use Rattle.std.proofs.Common.{◌≡◌, ◌<◌, ◌⊎◌, inl, inr, ℕ, zero, suc, List, length, Some, subst}
 use Rattle.ny_heap.specs.Heap.{Node, HeapState, node_at}
 use Rattle.ny_heap.specs.Reach.{HeapLaws}
 use Rattle.ny_heap.specs.Steps.{Fills}
@@ -16,9 +16,16 @@ module _ (R : Reveal) (waits : (old new : HeapState Branch) (u : ℕ) → R old 
 
   plain_wants : (n : ℕ) (E : Walk) → IsPlain (WalksInOrder R n) E → (k : ℕ) (old mid : HeapState Branch) (u : ℕ) (us : List ℕ) → WalksWants (WalksInOrder R n) k old u us mid → NoneWaits old → fills.FillsWants E k old u us mid
   plain_wants n E plain zero old mid u us walk none = walk
-  plain_wants n E plain (suc k) old new u us walk none =
-      (walk.0, walk.1, walk.2, walk.3, plain_wants n E plain k old walk.0 u walk.2 walk.4 none, walk.5,
-      plain walk.0 new walk.1 walk.3 walk.6 (quiet_wants R waits (WalksInOrder R n) (quiet_walk R waits n) k old walk.0 u walk.2 walk.4 none), walk.7)
+  plain_wants n E plain (suc k) old new u us walk none = (
+    walk.0,
+    walk.1,
+    walk.2,
+    walk.3,
+    plain_wants n E plain k old walk.0 u walk.2 walk.4 none,
+    walk.5,
+    plain walk.0 new walk.1 walk.3 walk.6 (quiet_wants R waits (WalksInOrder R n) (quiet_walk R waits n) k old walk.0 u walk.2 walk.4 none),
+    walk.7,
+  )
 
   pub plain_walk : (n : ℕ) → IsPlain (WalksInOrder R n) (fills.FillsInOrder n)
   plain_walk zero old new u us walk none = absurd walk
