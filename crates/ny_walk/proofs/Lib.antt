@@ -7,6 +7,9 @@ pub mod RevealLemmas
 pub mod WantLemmas
 pub mod WalkLemmas
 pub mod QuietLemmas
+pub mod TwinLemmas
+pub mod OnlyLemmas
+pub mod PlainLemmas
 pub mod HeardLemmas
 pub mod DriveLemmas
 pub mod TurnLemmas

@@ -9,7 +9,7 @@ use Rattle.ny_walk.specs.Walk.{Reveal, Walk, RevealsParts, WalksWants, FillsThen
 use Rattle.ny_walk.specs.Stops.{DueInOrder, NoneWaits}
 use Rattle.ny_walk.proofs.FillLemmas.{left_node}
 
-quiet_fill : {B : Type 0} (old new : HeapState B) (u : ℕ) → Fills old new u → NoneWaits old → NoneWaits new
+pub quiet_fill : {B : Type 0} (old new : HeapState B) (u : ℕ) → Fills old new u → NoneWaits old → NoneWaits new
 quiet_fill {B} old new u fills none v z at = let x = left_node old new u fills v z at in by_unit x.0 x.1 x.2
   where
     none_of : (b : Bool) (ws : List (Waiting B)) → ws ≡ [] → cond b ws [] ≡ []
@@ -37,17 +37,17 @@ quiet_due {B} h u p none due = by_node (node_at h u) refl due
     by_node (Some x) e d = by_list (needs_part h.block x) x.waiting (none u x e) d
 
 module _ (R : Reveal) (waits : (old new : HeapState Branch) (u : ℕ) → R old u new → (x : Node Branch) × (node_at old u ≡ Some x) × (0 < length x.waiting)) where
-  quiet_reveals : (k : ℕ) (old new : HeapState Branch) (u : ℕ) → RevealsParts R k old u new → NoneWaits old → old ≡ new
+  pub quiet_reveals : (k : ℕ) (old new : HeapState Branch) (u : ℕ) → RevealsParts R k old u new → NoneWaits old → old ≡ new
   quiet_reveals zero old new u steps none = steps
   quiet_reveals (suc k) old new u steps none =
       let mid = subst (λ (h : HeapState Branch). NoneWaits h) (quiet_reveals k old steps.0 u steps.1 none) none in
       let x = waits steps.0 new u steps.2 in
       absurd (omega (arith, x.2, ap (λ (ws : List (Waiting Branch)). length ws) (mid u x.0 x.1)))
 
-  abbrev Stays : Walk → Type 0
+  abbrev pub Stays : Walk → Type 0
   Stays D = (old new : HeapState Branch) (u : ℕ) (us : List ℕ) → D old u us new → NoneWaits old → NoneWaits new
 
-  quiet_wants : (D : Walk) → Stays D → (k : ℕ) (old mid : HeapState Branch) (u : ℕ) (us : List ℕ) → WalksWants D k old u us mid → NoneWaits old → NoneWaits mid
+  pub quiet_wants : (D : Walk) → Stays D → (k : ℕ) (old mid : HeapState Branch) (u : ℕ) (us : List ℕ) → WalksWants D k old u us mid → NoneWaits old → NoneWaits mid
   quiet_wants D stays zero old mid u us walk none = subst (λ (h : HeapState Branch). NoneWaits h) walk.1 none
   quiet_wants D stays (suc k) old new u us walk none = stays walk.0 new walk.1 walk.3 walk.6 (quiet_wants D stays k old walk.0 u walk.2 walk.4 none)
 

@@ -12,16 +12,17 @@ use Rattle.ny_trace.specs.Settled.{IsSettling}
 use Rattle.ny_trace.proofs.EvaluationLemmas.{evaluates_lawful}
 use Rattle.ny_trace.proofs.RisingEvaluationLemmas.{evaluates_rising}
 use Rattle.ny_trace.proofs.SettlingLemmas.{evaluates_settling}
-use Rattle.ny_walk.specs.Walk.{EvaluatesIn, PartTurn, Walks}
+use Rattle.ny_walk.specs.Walk.{EvaluatesIn, PartTurn, WalksWants, FillsThen, WalksInOrder, Walks}
 use Rattle.ny_walk.specs.Stops.{StopsAtFull, RunsOut, NoneWaits}
 use Rattle.ny_walk.specs.Parts.{IsMakingParts}
-use Rattle.ny_walk.specs.Below.{IsSettled, IsRanked, Walked, Stopped, Revealed}
+use Rattle.ny_walk.specs.Below.{IsSettled, IsRanked, Walked, Stopped, Revealed, WantsSoFar, RevealsSoFar}
 use Rattle.ny_walk.specs.Heard.{StaysHeard}
 use Rattle.ny_walk.proofs.HeardLemmas.{stays_heard}
 use Rattle.ny_walk.proofs.PartsLemmas.{evaluates_parts}
 use Rattle.ny_walk.proofs.RevealLemmas.{turn_reveals}
-use Rattle.ny_walk.proofs.WalkLemmas.{walk_leaves, stop_leaves, stops_full}
+use Rattle.ny_walk.proofs.WalkLemmas.{wants_leave, fills_leave, walk_leaves, stop_leaves, stops_full}
 use Rattle.ny_walk.proofs.QuietLemmas.{quiet_walk, quiet_enough}
+use Rattle.ny_walk.proofs.PlainLemmas.{only_one}
 
 lawful_in : (code : Code) → IsOrdered code → KeepsFree code → IsLawful code (EvaluatesIn code)
 lawful_in code ordered free e env names old new s t inside laws named = evaluates_lawful code ordered free t.0 e env names old new s t.1 inside laws named
@@ -75,3 +76,18 @@ module _ (code : Code) (n : ℕ) (old new : HeapState Branch) (u : ℕ) (us : Li
 
   pub never_out : RunsOut code n old u us new → NoneWaits old → ⊥
   never_out walk none = quiet_enough (PartTurn code) (part_waits code) n old new u us walk none
+
+-- from one heap where no part waits, a walk either ends or stops
+pub ends_only : (code : Code) (n m : ℕ) (old new stop : HeapState Branch) (u : ℕ) (us ws : List ℕ) → NoneWaits old → Walks code n old u us new → StopsAtFull code m old u ws stop → ⊥
+ends_only code n m old new stop u us ws none ends stops = only_one (PartTurn code) (part_waits code) n m old new stop u us ws none ends stops
+
+-- ---- in the midst of a walk
+
+module _ (code : Code) (ordered : IsOrdered code) (free : KeepsFree code) (tall : ℕ → ℕ) (is : IsTall code tall) (n : ℕ) (old : HeapState Branch) (u left : ℕ) (us : List ℕ) (x : Node Branch) (there : node_at old u ≡ Some x) (laws : HeapLaws old) (settled : IsSettled old) (ranked : IsRanked tall old u left) where
+  pub wants_so_far : (k : ℕ) (mid : HeapState Branch) → WalksWants (WalksInOrder (PartTurn code) n) k old u us mid → WantsSoFar code tall old mid u left
+  wants_so_far k mid walk =
+      wants_leave code tall (PartTurn code) (part_reveals code ordered free tall is) (WalksInOrder (PartTurn code) n) (walk_leaves code tall (PartTurn code) (part_reveals code ordered free tall is) n) k old mid u left us x there laws settled ranked walk
+
+  pub reveals_so_far : (new : HeapState Branch) → FillsThen (WalksInOrder (PartTurn code) n) (PartTurn code) old u us new → RevealsSoFar code tall old new u
+  reveals_so_far new walk =
+      fills_leave code tall (PartTurn code) (part_reveals code ordered free tall is) (WalksInOrder (PartTurn code) n) (walk_leaves code tall (PartTurn code) (part_reveals code ordered free tall is) n) old new u left us x there laws settled ranked walk

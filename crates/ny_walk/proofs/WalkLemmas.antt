@@ -159,10 +159,10 @@ module _ (code : Code) (tall : ℕ → ℕ) where
   -- ---- the whole walk
 
   module _ (R : Reveal) (reveals : (old new : HeapState Branch) (u : ℕ) → HeapLaws old → R old u new → Revealed code tall old new u) where
-    abbrev Leaves : Walk → Type 0
+    abbrev pub Leaves : Walk → Type 0
     Leaves D = (old new : HeapState Branch) (u left : ℕ) (us : List ℕ) (x : Node Branch) → node_at old u ≡ Some x → HeapLaws old → IsSettled old → IsRanked tall old u left → D old u us new → Walked code tall old new u
 
-    wants_leave : (D : Walk) → Leaves D → (k : ℕ) (old mid : HeapState Branch) (u left : ℕ) (us : List ℕ) (x : Node Branch) → node_at old u ≡ Some x → HeapLaws old → IsSettled old → IsRanked tall old u left → WalksWants D k old u us mid → WantsSoFar code tall old mid u left
+    pub wants_leave : (D : Walk) → Leaves D → (k : ℕ) (old mid : HeapState Branch) (u left : ℕ) (us : List ℕ) (x : Node Branch) → node_at old u ≡ Some x → HeapLaws old → IsSettled old → IsRanked tall old u left → WalksWants D k old u us mid → WantsSoFar code tall old mid u left
     wants_leave D leaves zero old mid u left us x there laws settled ranked walk = subst (λ (h : HeapState Branch). WantsSoFar code tall old h u left) walk.1 (wants_none old u left laws settled ranked)
     wants_leave D leaves (suc k) old new u left us x there laws settled ranked walk =
         let so = wants_leave D leaves k old walk.0 u left walk.2 x there laws settled ranked walk.4 in
@@ -189,7 +189,7 @@ module _ (code : Code) (tall : ℕ → ℕ) where
 
     -- ---- a walk that stops
 
-    abbrev Stops : Walk → Type 0
+    abbrev pub Stops : Walk → Type 0
     Stops S = (old new : HeapState Branch) (u left : ℕ) (us : List ℕ) (x : Node Branch) → node_at old u ≡ Some x → HeapLaws old → IsSettled old → IsRanked tall old u left → S old u us new → Stopped code tall old new u
 
     stops_then : (D S : Walk) → Leaves D → Stops S → Stops (StopsThen D S)

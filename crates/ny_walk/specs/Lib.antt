@@ -1,5 +1,6 @@
 pub mod Walk
 pub mod Stops
+pub mod Fills
 pub mod Parts
 pub mod Below
 pub mod Heard

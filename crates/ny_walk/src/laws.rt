@@ -20,7 +20,8 @@ pub fn walk_laws()
     ensures heard { (code : Code) (n : ℕ) (old new : HeapState Branch) (u : ℕ) (us : List ℕ) → Walks code n old u us new ⊎ StopsAtFull code n old u us new → IsOrdered code → KeepsFree code → (tall : ℕ → ℕ) → IsTall code tall → (left : ℕ) → IsSome (node_at old u) → HeapLaws old → IsSettled old → IsRanked tall old u left → StaysHeard code old new }
     // It stops where no block is free.
     ensures full { (code : Code) (n : ℕ) (old new : HeapState Branch) (u : ℕ) (us : List ℕ) → StopsAtFull code n old u us new → free_of new ≡ 0 }
-    // Where no part waits none waits afterwards, and memory is not missing.
+    // Where no part waits none waits afterwards, a walk either ends or stops, and memory is not missing.
     ensures quiet { (code : Code) (n : ℕ) (old new : HeapState Branch) (u : ℕ) (us : List ℕ) → Walks code n old u us new → NoneWaits old → NoneWaits new }
+    ensures only { (code : Code) (n m : ℕ) (old new stop : HeapState Branch) (u : ℕ) (us ws : List ℕ) → NoneWaits old → Walks code n old u us new → StopsAtFull code m old u ws stop → ⊥ }
     ensures enough { (code : Code) (n : ℕ) (old last : HeapState Branch) (u : ℕ) (us : List ℕ) → RunsOut code n old u us last → NoneWaits old → ⊥ }
 {}

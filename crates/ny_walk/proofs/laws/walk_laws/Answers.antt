@@ -1,5 +1,5 @@
 use Rattle.std.proofs.Common.{inl, inr}
-use Rattle.ny_walk.proofs.TurnLemmas.{walked, stopped, walked_heard, stopped_heard, stopped_full, none_waits, never_out}
+use Rattle.ny_walk.proofs.TurnLemmas.{walked, stopped, walked_heard, stopped_heard, stopped_full, none_waits, never_out, ends_only}
 use Rattle.ny_walk.proofs.laws.walk_laws.Goals as goal
 
 pub returns-clause-walks : goal.returns-clause-walks
@@ -22,3 +22,6 @@ returns-clause-heard c = λ code n old new u us walk ordered free tall is left t
   | inl ends ↦ walked_heard code n old new u us ordered free tall is left there laws settled ranked ends
   | inr stops ↦ stopped_heard code n old new u us ordered free tall is left there laws settled ranked stops
 ]
+
+pub returns-clause-only : goal.returns-clause-only
+returns-clause-only c = λ code n m old new stop u us ws none ends stops. ends_only code n m old new stop u us ws none ends stops
