@@ -23,3 +23,4 @@ pub mod PartLemmas
 pub mod WaitingLemmas
 pub mod TimedLemmas
 pub mod TurnLemmas
+pub mod FitLemmas

@@ -122,7 +122,7 @@ bound_times : (names : Names) → timed (bound_like names) ≡ times_in names
 bound_times [] = refl
 bound_times (b ∷ bs) = λ i. (b.0, value_times b.1 i) ∷ bound_times bs i
 
-equation : (code : Code) (e : ℕ) (at : Node) (env : Env) (names : Names) → node_at code e ≡ at → IsBelow code.functions e at → timing_at code e env (times_in names) ≡ timing_node code at (timing_at code) env (times_in names)
+pub equation : (code : Code) (e : ℕ) (at : Node) (env : Env) (names : Names) → node_at code e ≡ at → IsBelow code.functions e at → timing_at code e env (times_in names) ≡ timing_node code at (timing_at code) env (times_in names)
 equation code e at env names here below =
     timing_at-is code e env (times_in names) (subst (λ n. IsBelow code.functions e n) (sym here) below)
     ∙ ap (λ (n : Node). timing_node code n (timing_at code) env (times_in names)) here

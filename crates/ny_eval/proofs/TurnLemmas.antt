@@ -1,5 +1,5 @@
 -- Parts of a sequence, one after the other.
-use Rattle.std.proofs.Common.{◌≡◌, ◌⊎◌, inl, inr, ℕ, zero, suc, ◌+◌, ◌-◌, ◌≤◌, List, [], ◌∷◌, ◌++◌, length, map, refl, sym, ap, subst, ◌∙◌, arith}
+use Rattle.std.proofs.Common.{◌≡◌, ◌⊎◌, inl, inr, ℕ, zero, suc, ◌+◌, ◌-◌, ◌<◌, ◌≤◌, List, [], ◌∷◌, ◌++◌, length, map, refl, sym, ap, subst, ◌∙◌, arith}
 use Rattle.std.specs.List.{range_with_len}
 use Rattle.std.proofs.lemmas.List.{append-nil, append_assoc, length-append, map-append}
 use Rattle.std.proofs.lemmas.List.FromFn.{map-range_with_len_more}
@@ -9,9 +9,10 @@ use Rattle.ny_num.specs.declared.rate.Rate.{Rate}
 use Rattle.ny_num.specs.declared.timing.Timing.{Timing}
 use Rattle.ny_warp.specs.declared.env.Env.{Env}
 use Rattle.ny_resolve.specs.declared.term.NameId.{NameId}
+use Rattle.ny_warp.specs.Environment.{from_stop}
 use Rattle.ny_check.specs.declared.value.Value.{Value}
 use Rattle.ny_check.specs.declared.value.Value.TheVariants.{Number, Sound as SoundOf}
-use Rattle.ny_check.specs.Code.{Code}
+use Rattle.ny_check.specs.Code.{Code, IsOrdered}
 use Rattle.ny_check.specs.Meaning.{Bound, meaning}
 use Rattle.ny_timing.specs.Timings.{Timed, timed, IsTimedName, AllTimed}
 use Rattle.ny_heap.specs.declared.sound.Sound.{Sound}
@@ -28,10 +29,11 @@ use Rattle.ny_hands.proofs.PlaceLemmas.{placed_len, hand_placed}
 use Rattle.ny_hands.proofs.SpendLemmas.{hand_brought}
 use Rattle.ny_trace.specs.Evaluates.{Trace, Part, NextTurn, NextsTurn, WaitsTurn, SeqTurn, Evaluates, times_in}
 use Rattle.ny_eval.specs.declared.parts.Parts.{Parts}
-use Rattle.ny_eval.specs.Parts.{count_in, parts_in, part_at}
+use Rattle.ny_eval.specs.Parts.{count_in, parts_in, part_at, AreBelow, CanBePlayed}
 use Rattle.ny_eval.specs.Turns.{Follows, Gains, AreNext, Starts, AreEnough, RestTurn}
 use Rattle.ny_eval.specs.Waiting.{parts_between}
-use Rattle.ny_eval.proofs.PartLemmas.{parts_all}
+use Rattle.ny_eval.proofs.PartLemmas.{parts_all, part_below, part_built, part_held}
+use Rattle.ny_eval.proofs.EvalLemmas.{sound_hand}
 
 -- ---- timings of names
 
@@ -61,6 +63,23 @@ moved_as_placed p t u is = ap (λ (v : Timing). moved_to v.start v.stop t) is �
 pub follows_hand : (r : Rate) (stop : ℕ) (old mid new : HeapState Branch) (a s : Sound) (others : List Sound) → HeapLaws old → Hand old mid (a ∷ others) → Follows r stop a mid new s → Hand old new (s ∷ others)
 follows_hand r stop old mid new a s others laws hand step =
     hand_placed old step.mid new (placed_timing (index_at stop r)) step.brought s others (placed_len (index_at stop r)) laws (hand_brought old mid step.mid r a step.brought others laws hand step.brings) step.places
+
+-- what came into hand with a part
+pub part_hand : (code : Code) → IsOrdered code → (n : ℕ) (env : Env) (names : Names) (parts : Parts) (k : ℕ) (old new : HeapState Branch) (s : Sound) → n < length code.nodes → k < count_in parts → AreBelow n parts → CanBePlayed code parts → HeapLaws old → AllHeld old names → Evaluates code n (part_at names parts k).0.0 env (part_at names parts k).1 old new s → Hand old new (s ∷ [])
+part_hand code ordered n env names parts k old new s inside within below can laws held turn =
+    sound_hand code ordered n (part_at names parts k).0.0 env (part_at names parts k).1 old new s (omega (arith, inside, part_below n names parts k within below)) (part_built code names parts k within can) laws (part_held old names parts k held) turn
+
+-- the part that follows one with this stop
+pub next_turn : (code : Code) (n : ℕ) (env late : Env) (stop : ℕ) (p : Part) (old mid new : HeapState Branch) (a s : Sound) → late ≡ from_stop env stop → Evaluates code n p.0.0 late p.1 old mid a → Follows env.sound_rate stop a mid new s → NextTurn (Evaluates code n) env stop p old new s
+next_turn code n env late stop p old mid new a s same evaluates step = record {
+  part = a;
+  brought = step.brought;
+  mid = mid;
+  end = step.mid;
+  evaluates = subst (λ (q : Env). Evaluates code n p.0.0 q p.1 old mid a) same evaluates;
+  brings = step.brings;
+  places = step.places;
+}
 
 -- ---- one part after another
 

@@ -5,7 +5,9 @@ use Rattle.ny_num.specs.Sound.{placed_timing}
 use Rattle.ny_num.specs.declared.rate.Rate.{Rate}
 use Rattle.ny_num.specs.declared.timing.Timing.{Timing}
 use Rattle.ny_warp.specs.declared.env.Env.{Env}
-use Rattle.ny_check.specs.Code.{Code}
+use Rattle.ny_resolve.specs.declared.builtin.Order.TheVariants.{InTurn}
+use Rattle.ny_check.specs.declared.node.Node.TheVariants as node
+use Rattle.ny_check.specs.Code.{Code, node_at}
 use Rattle.ny_heap.specs.declared.sound.Sound.{Sound}
 use Rattle.ny_heap.specs.Heap.{Mix, HeapState}
 use Rattle.ny_heap.specs.Steps.{last_stop_of, waiting_of, sounds_of}
@@ -15,6 +17,7 @@ use Rattle.ny_hands.specs.Frames.{Names}
 use Rattle.ny_hands.specs.Hands.{Hand}
 use Rattle.ny_trace.specs.Evaluates.{Part, NextsTurn, Evaluates}
 use Rattle.ny_eval.specs.declared.parts.Parts.{Parts}
+use Rattle.ny_eval.specs.declared.parts.Parts.TheVariants.{Listed, Counted}
 use Rattle.ny_eval.specs.Parts.{part_at}
 use Rattle.ny_eval.specs.Waiting.{parts_between, WaitAll}
 
@@ -56,3 +59,8 @@ pub record RestTurn (code : Code) (env : Env) (later : List Part) (t : Timing) (
   pub mid : HeapState Branch
   pub waits : WaitAll code env later old mid waiting
   pub made : MakesUnit mid new Mix t ss (map waiting_of waiting) (ss ++ sounds_of waiting) s
+
+-- a node has these parts, one after another
+abbrev pub AreInTurn : Code → ℕ → Parts → Type 0
+AreInTurn code e (Listed es) = node_at code e ≡ node.Mix InTurn es.now
+AreInTurn code e (Counted i count a) = node_at code e ≡ node.Repeat InTurn i count a

@@ -3,6 +3,7 @@
 ghost use Rattle.std.specs.Prelude.{◌≡◌, ◌+◌, ◌<◌, [], ◌∷◌, length, nat_lt, IfOk, OnErr};
 ghost use Rattle.ny_num.specs.Grid.{index_at};
 ghost use Rattle.ny_num.specs.Sound.{IsTiming, placed_timing, timing_of};
+ghost use Rattle.ny_warp.specs.Environment.{from_stop};
 ghost use Rattle.ny_check.specs.Meaning.{Bound, meaning};
 ghost use Rattle.ny_timing.specs.Timings.{AllTimed, timed};
 ghost use Rattle.ny_hands.specs.Calls.{Places};
@@ -40,6 +41,18 @@ pub(crate) fn whole_timing(
 {
     let times = frame.times(alloc)?;
     Ok(timing(alloc, p, e, env, &times)?)
+}
+
+/// The environment from a stop on.
+///
+/// # Errors
+/// `AllocError` where memory is missing.
+pub(crate) fn env_from(alloc: Global, env: &Env, stop: Ticks) -> Result<Env, AllocError>
+    ensures { IfOk result (λ late. late ≡ from_stop env.now stop) }
+{
+    let mut late = env.copy(alloc)?;
+    late.at_stop(stop);
+    Ok(late)
 }
 
 /// Whether the part behind this stop has its place in the first block of a sequence that is heard so.
