@@ -1,16 +1,16 @@
 -- The parts of a sequence that are evaluated lie within it.
-use Rattle.std.proofs.Common.{◌≡◌, ℕ, zero, suc, ◌+◌, ◌-◌, ◌<◌, ◌≤◌, min, max, Bool, true, false, if◌then◌else◌, List, [], ◌∷◌, ◌++◌, map, length, All, get_or, refl, sym, ap, subst, ◌∙◌, arith}
+use Rattle.std.proofs.Common.{◌≡◌, ℕ, ◌+◌, ◌-◌, ◌<◌, ◌≤◌, min, max, Bool, true, false, if◌then◌else◌, List, [], ◌∷◌, ◌++◌, map, length, All, refl, ap, subst, ◌∙◌, arith}
 use Rattle.ny_num.specs.Grid.{index_at}
 use Rattle.ny_num.specs.Mix.{least_start, greatest_end, mix_timing}
 use Rattle.ny_num.specs.Resampling.{is_same_rate, resampled_timing, other_rate_timing}
-use Rattle.ny_num.specs.Sound.{IsTiming, placed_timing, spanning, timing_of}
+use Rattle.ny_num.specs.Sound.{IsTiming, placed_timing, spanning}
 use Rattle.ny_num.specs.declared.rate.Rate.{Rate}
 use Rattle.ny_num.specs.declared.timing.Timing.{Timing}
 use Rattle.ny_warp.specs.declared.env.Env.{Env}
 use Rattle.ny_warp.specs.Environment.{from_stop}
 use Rattle.ny_resolve.specs.declared.builtin.Order.TheVariants.{InTurn}
 use Rattle.ny_check.specs.declared.node.Node.TheVariants as node
-use Rattle.ny_check.specs.Code.{Code, node_at, IsBelow, IsOrdered}
+use Rattle.ny_check.specs.Code.{Code, IsBelow, IsOrdered}
 use Rattle.ny_timing.specs.Timings.{timing_at, next_time, times_after, times_in_turn}
 use Rattle.ny_heap.specs.declared.sound.Sound.{Sound}
 use Rattle.ny_heap.specs.Heap.{HeapState}
@@ -18,7 +18,7 @@ use Rattle.ny_heap.specs.Steps.{IsMixOf, last_stop_of}
 use Rattle.ny_hands.specs.declared.branch.Branch.{Branch}
 use Rattle.ny_hands.specs.Frames.{Names}
 use Rattle.ny_hands.proofs.RateLemmas.{same_rate}
-use Rattle.ny_trace.specs.Evaluates.{Trace, Part, NextTurn, NextsTurn, Evaluates, times_in}
+use Rattle.ny_trace.specs.Evaluates.{Trace, Part, NextTurn, NextsTurn, times_in}
 use Rattle.ny_eval.specs.declared.parts.Parts.{Parts}
 use Rattle.ny_eval.specs.declared.parts.Parts.TheVariants.{Listed, Counted}
 use Rattle.ny_eval.specs.Parts.{parts_in}
