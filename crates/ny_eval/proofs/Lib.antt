@@ -20,3 +20,7 @@ pub mod BodyLemmas
 pub mod CueLemmas
 pub mod MixingLemmas
 pub mod PartLemmas
+pub mod WaitingLemmas
+pub mod TimedLemmas
+pub mod TurnLemmas
+pub mod FitLemmas

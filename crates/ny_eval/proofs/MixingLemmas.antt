@@ -25,10 +25,10 @@ use Rattle.ny_eval.specs.Mixing.{ComeFor}
 
 -- ---- all of some
 
-all_none : {A : Type 0} (P : A → Type 0) → All P []
+pub all_none : {A : Type 0} (P : A → Type 0) → All P []
 all_none P k d within = absurd (omega (arith, within))
 
-all_more : {A : Type 0} (P : A → Type 0) (a : A) (bs : List A) → P a → All P bs → All P (a ∷ bs)
+pub all_more : {A : Type 0} (P : A → Type 0) (a : A) (bs : List A) → P a → All P bs → All P (a ∷ bs)
 all_more {A} P a bs p ps k d within = at k within
   where
     at : (k : ℕ) → k < length (a ∷ bs) → P (get_or (a ∷ bs) k d)
@@ -45,7 +45,7 @@ all_behind : {A : Type 0} (P : A → Type 0) (bs : List A) (a : A) → All P bs 
 all_behind P [] a ps p = all_more P a [] p (all_none P)
 all_behind P (b ∷ bs) a ps p = all_more P b (bs ++ a ∷ []) (all_first P b bs ps) (all_behind P bs a (all_rest P b bs ps) p)
 
-all_so : {A : Type 0} (P Q : A → Type 0) (bs : List A) → ((a : A) → P a → Q a) → All P bs → All Q bs
+pub all_so : {A : Type 0} (P Q : A → Type 0) (bs : List A) → ((a : A) → P a → Q a) → All P bs → All Q bs
 all_so P Q bs so ps k d within = so _ (ps k d within)
 
 -- ---- a test of length
@@ -177,11 +177,11 @@ times_at h r (s ∷ ss) begin rates =
     all_more (IsTimingAt r) s.timing (times_in ss) (begin.0.bounds, all_first (λ (s : Sound). s.timing.rate ≡ r) s ss rates)
     (times_at h r ss begin.1 (all_rest (λ (s : Sound). s.timing.rate ≡ r) s ss rates))
 
-least_most : (start : ℕ) (ts : List Timing) → least_start start ts ≤ start
+pub least_most : (start : ℕ) (ts : List Timing) → least_start start ts ≤ start
 least_most start [] = omega arith
 least_most start (t ∷ ts) = omega (arith, least_most (min start t.start) ts)
 
-greatest_least : (r : Rate) (end : ℕ) (ts : List Timing) → end ≤ greatest_end r end ts
+pub greatest_least : (r : Rate) (end : ℕ) (ts : List Timing) → end ≤ greatest_end r end ts
 greatest_least r end [] = omega arith
 greatest_least r end (t ∷ ts) = omega (arith, greatest_least r (max end (max (t.start + t.len) (index_at t.stop r))) ts)
 

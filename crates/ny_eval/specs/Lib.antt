@@ -8,4 +8,6 @@ pub mod Order
 pub mod Parts
 pub mod Playing
 pub mod Shapes
+pub mod Turns
 pub mod Values
+pub mod Waiting

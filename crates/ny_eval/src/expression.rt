@@ -11,7 +11,7 @@ ghost use Rattle.ny_eval.specs.Parts.{count_in, parts_in, part_at, AreBelow, Can
 ghost use Rattle.ny_hands.specs.Frames.{AllHeld, bound_in, part_is, sounds_among};
 ghost use Rattle.ny_hands.specs.Hands.{Hand, Comes, item};
 ghost use Rattle.ny_trace.specs.Heights.{Ranks, AreLow, Stands};
-ghost use Rattle.ny_trace.specs.Evaluates.{Evaluates, ValueTurn, OperationTurn, SignTurn, EffectTurn, BlockTurn, CallTurn, CueTurn, PartsTurn, SimTurn, numbers_in};
+ghost use Rattle.ny_trace.specs.Evaluates.{Evaluates, ValueTurn, OperationTurn, SignTurn, EffectTurn, BlockTurn, CallTurn, CueTurn, PartsTurn, SimTurn, NextTurn, numbers_in};
 
 use crate::cue::cued;
 use crate::filter::make_of;
@@ -20,13 +20,14 @@ use crate::leaf::{lawful, make_leaf, silent};
 use crate::mixing::{give_up_all, mixed};
 use crate::name::named;
 use crate::parts::{Parts, expr_at, turn_number};
+use crate::turn::{env_from, following};
 use crate::unit::{give_up, joined, single};
 use crate::values::{no_names, number_in, numbers};
 use ny_check::changes::{change_by, change_rate};
 use ny_check::{Binds, Change, Effect, ExprId, FunctionId, NameId, Node, Program, Value};
 use ny_hands::Branch;
 use ny_heap::{Heap, Op, Sound};
-use ny_num::Fix;
+use ny_num::{Fix, Ticks};
 use ny_warp::Env;
 use std::alloc::{AllocError, Global};
 use std::collections::VecDeque;
@@ -547,6 +548,38 @@ fn call(
             Err(fault)
         }
     }
+}
+
+/// Part `k` of a sequence, which follows one with this stop: in the environment from there on, brought to the sound rate, and placed there.
+///
+/// # Errors
+/// `AllocError` where memory is missing. The heap is then as before.
+fn next_part(
+    alloc: Global,
+    p: &Program,
+    e: ExprId,
+    parts: &Parts<'_>,
+    k: usize,
+    stop: Ticks,
+    env: &Env,
+    frame: &mut Frame<'_>,
+    heap: &mut Heap<Branch>,
+) -> Result<Sound, AllocError>
+    requires inside { e.0 < length p.now.nodes }
+    requires below { AreBelow e.0 parts.now }
+    requires built { CanBePlayed p.now parts.now }
+    requires place { k < count_in parts.now }
+    requires names { AllHeld heap.old (names_in frame.old) }
+    ensures turn { IfOk result (λ s. NextTurn (Evaluates p.now e.0) env.now stop (part_at (names_in frame.old) parts.now k) heap.old heap.new s) }
+    ensures hand { IfOk result (λ s. Hand heap.old heap.new (s ∷ [])) }
+    ensures same { frame.new ≡ frame.old }
+    ensures refused { OnErr result (Hand heap.old heap.new []) }
+{
+    p.order_law();
+    lawful(heap);
+    let late = env_from(alloc, env, stop)?;
+    let sound = part(alloc, p, e, parts, k, late, frame, heap)?;
+    Ok(following(alloc, sound, stop, env.sound_rate, heap)?)
 }
 
 /// The sound that an expression is, in an environment, as a sound of the heap

@@ -11,7 +11,7 @@ ghost use Rattle.ny_heap.specs.declared.sound.Sound.{Sound as Handle};
 ghost use Rattle.ny_hands.specs.Calls.{ReleasesAll};
 ghost use Rattle.ny_hands.specs.Frames.{sounds_among};
 ghost use Rattle.ny_hands.specs.Hands.{InHand, GivesUp};
-ghost use Rattle.ny_trace.specs.Evaluates.{sounds_of_values};
+ghost use Rattle.ny_trace.specs.Evaluates.{sounds_of_values, timed_in, times_in};
 ghost use Rattle.ny_eval.specs.Framed.{FrameState, names_in, places_from};
 
 use crate::unit::give_up;
@@ -19,8 +19,9 @@ use ny_check::operations::{holds, number_in};
 use ny_check::{Binds, ExprId, NameId, Program, Scalar, Value};
 use ny_hands::Branch;
 use ny_heap::{Heap, Sound};
-use ny_num::Fix;
+use ny_num::{Fix, Timing};
 use ny_scope::Scope;
+use sqlite_items::Items;
 use std::alloc::{AllocError, Global};
 use std::marker::Model;
 use std::mem::replace;
@@ -86,6 +87,32 @@ fn scalars_of(
         scalars.bind(names[i].0, scalar_in(&names[i].1))?;
     }
     Ok(scalars)
+}
+
+// A number, or when a sound is heard.
+fn timed_in(value: &Value<Sound>) -> Value<Timing>
+    ensures { result ≡ timed_in value.now }
+{
+    match value {
+        Value::Number(v) => Value::Number(*v),
+        Value::Sound(sound) => Value::Sound(sound.timing),
+    }
+}
+
+/// Adds when the sounds are heard that these names stand for.
+///
+/// # Errors
+/// `AllocError` where memory is missing.
+fn add_times(
+    names: &[(NameId, Value<Sound>)],
+    times: &mut Vec<(NameId, Value<Timing>)>,
+) -> Result<(), AllocError>
+    ensures { OnOk result (times.new.items ≡ times.old.items ++ times_in names.now) }
+{
+    for i in 0..names.len() {
+        times.push((names[i].0, timed_in(&names[i].1)))?;
+    }
+    Ok(())
 }
 
 /// Binds a name after all that are bound.
@@ -245,6 +272,21 @@ impl<'a> Frame<'a> {
         self.scalars.leave(outer);
         give_up_after(self.bound.as_mut_slice(), len, heap);
         self.bound.truncate(len);
+    }
+
+    /// When the sounds are heard that all names stand for.
+    ///
+    /// # Errors
+    /// `AllocError` where memory is missing.
+    pub(crate) fn times(&self, alloc: Global) -> Result<Binds<Timing>, AllocError>
+        ensures { IfOk result (λ binds. binds.names ≡ times_in (names_in self.now)) }
+    {
+        let mut times = Vec::new(alloc);
+        add_times(self.lent, &mut times)?;
+        add_times(self.bound.as_slice(), &mut times)?;
+        Ok(Binds {
+            names: Items::from_vec(times),
+        })
     }
 
     /// What an expression is under these names, with its value where it is a number or a test.

@@ -15,8 +15,10 @@ mod leaf;
 mod mixing;
 mod name;
 mod parts;
+mod turn;
 mod unit;
 mod values;
+mod waiting;
 mod walk;
 
 pub use built::is_built;

@@ -23,7 +23,7 @@ use std::alloc::{AllocError, Global};
 ///
 /// # Errors
 /// `AllocError` where 2^32 - 1 readers read it. All is then as before.
-fn shared(sound: &Sound, heap: &mut Heap<Branch>) -> Result<Sound, AllocError>
+pub(crate) fn shared(sound: &Sound, heap: &mut Heap<Branch>) -> Result<Sound, AllocError>
     requires held { IsHeldSound heap.old sound.now }
     requires begins { place_of sound.now ≡ 0 }
     ensures shares { IfOk result (λ s. Shares heap.old heap.new sound.now s) }

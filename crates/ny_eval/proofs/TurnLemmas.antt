@@ -1,0 +1,194 @@
+-- Parts of a sequence, one after the other.
+use Rattle.std.proofs.Common.{◌≡◌, ◌⊎◌, inl, inr, ℕ, zero, suc, ◌+◌, ◌-◌, ◌<◌, ◌≤◌, List, [], ◌∷◌, ◌++◌, length, map, refl, sym, ap, subst, ◌∙◌, arith}
+use Rattle.std.specs.List.{range_with_len}
+use Rattle.std.proofs.lemmas.List.{append-nil, append_assoc, length-append, map-append}
+use Rattle.std.proofs.lemmas.List.FromFn.{map-range_with_len_more}
+use Rattle.ny_num.specs.Grid.{index_at}
+use Rattle.ny_num.specs.Sound.{placed_timing, timing_of}
+use Rattle.ny_num.specs.declared.rate.Rate.{Rate}
+use Rattle.ny_num.specs.declared.timing.Timing.{Timing}
+use Rattle.ny_warp.specs.declared.env.Env.{Env}
+use Rattle.ny_resolve.specs.declared.term.NameId.{NameId}
+use Rattle.ny_warp.specs.Environment.{from_stop}
+use Rattle.ny_check.specs.declared.value.Value.{Value}
+use Rattle.ny_check.specs.declared.value.Value.TheVariants.{Number, Sound as SoundOf}
+use Rattle.ny_check.specs.Code.{Code, IsOrdered}
+use Rattle.ny_check.specs.Meaning.{Bound, meaning}
+use Rattle.ny_timing.specs.Timings.{Timed, timed, IsTimedName, AllTimed}
+use Rattle.ny_heap.specs.declared.sound.Sound.{Sound}
+use Rattle.ny_heap.specs.Heap.{Mix, HeapState}
+use Rattle.ny_heap.specs.Reach.{HeapLaws}
+use Rattle.ny_heap.specs.Sharing.{moved_to}
+use Rattle.ny_heap.specs.Steps.{last_stop_of, waiting_of, sounds_of}
+use Rattle.ny_hands.specs.declared.branch.Branch.{Branch}
+use Rattle.ny_hands.specs.Calls.{MakesUnit}
+use Rattle.ny_hands.specs.Frames.{Names, AllHeld}
+use Rattle.ny_hands.specs.Hands.{Hand}
+use Rattle.ny_hands.proofs.HandLemmas.{hand_none, hand_more}
+use Rattle.ny_hands.proofs.PlaceLemmas.{placed_len, hand_placed}
+use Rattle.ny_hands.proofs.SpendLemmas.{hand_brought}
+use Rattle.ny_trace.specs.Evaluates.{Trace, Part, NextTurn, NextsTurn, WaitsTurn, SeqTurn, Evaluates, times_in}
+use Rattle.ny_eval.specs.declared.parts.Parts.{Parts}
+use Rattle.ny_eval.specs.Parts.{count_in, parts_in, part_at, AreBelow, CanBePlayed}
+use Rattle.ny_eval.specs.Turns.{Follows, Gains, AreNext, Starts, AreEnough, RestTurn}
+use Rattle.ny_eval.specs.Waiting.{parts_between}
+use Rattle.ny_eval.proofs.PartLemmas.{parts_all, part_below, part_built, part_held}
+use Rattle.ny_eval.proofs.EvalLemmas.{sound_hand}
+
+-- ---- timings of names
+
+timed_nothing : AllTimed []
+timed_nothing k d within = absurd (omega (arith, within))
+
+timed_first : (b : NameId × Value Timing) (bs : Timed) → IsTimedName b → AllTimed bs → AllTimed (b ∷ bs)
+timed_first b bs is all zero d within = is
+timed_first b bs is all (suc k) d within = all k d (omega (arith, within))
+
+-- the sounds of held names are within the bounds
+pub held_timed : {B : Type 0} (h : HeapState B) (names : Names) → AllHeld h names → AllTimed (times_in names)
+held_timed h [] held = timed_nothing
+held_timed h ((x, Number v) ∷ bs) held = timed_first (x, Number v) (times_in bs) tt (held_timed h bs held.1)
+held_timed h ((x, SoundOf s) ∷ bs) held = timed_first (x, SoundOf s.timing) (times_in bs) held.0.1.0 (held_timed h bs held.1)
+
+-- ---- a part in its place
+
+placed_moved : (p : ℕ) (t : Timing) → moved_to (placed_timing p t).start (placed_timing p t).stop t ≡ placed_timing p t
+unfolding placed_timing
+placed_moved p t = refl
+
+pub moved_as_placed : (p : ℕ) (t u : Timing) → u ≡ placed_timing p t → moved_to u.start u.stop t ≡ placed_timing p t
+moved_as_placed p t u is = ap (λ (v : Timing). moved_to v.start v.stop t) is ∙ placed_moved p t
+
+-- what came into hand with a part that follows
+pub follows_hand : (r : Rate) (stop : ℕ) (old mid new : HeapState Branch) (a s : Sound) (others : List Sound) → HeapLaws old → Hand old mid (a ∷ others) → Follows r stop a mid new s → Hand old new (s ∷ others)
+follows_hand r stop old mid new a s others laws hand step =
+    hand_placed old step.mid new (placed_timing (index_at stop r)) step.brought s others (placed_len (index_at stop r)) laws (hand_brought old mid step.mid r a step.brought others laws hand step.brings) step.places
+
+-- what came into hand with a part
+pub part_hand : (code : Code) → IsOrdered code → (n : ℕ) (env : Env) (names : Names) (parts : Parts) (k : ℕ) (old new : HeapState Branch) (s : Sound) → n < length code.nodes → k < count_in parts → AreBelow n parts → CanBePlayed code parts → HeapLaws old → AllHeld old names → Evaluates code n (part_at names parts k).0.0 env (part_at names parts k).1 old new s → Hand old new (s ∷ [])
+part_hand code ordered n env names parts k old new s inside within below can laws held turn =
+    sound_hand code ordered n (part_at names parts k).0.0 env (part_at names parts k).1 old new s (omega (arith, inside, part_below n names parts k within below)) (part_built code names parts k within can) laws (part_held old names parts k held) turn
+
+-- the part that follows one with this stop
+pub next_turn : (code : Code) (n : ℕ) (env late : Env) (stop : ℕ) (p : Part) (old mid new : HeapState Branch) (a s : Sound) → late ≡ from_stop env stop → Evaluates code n p.0.0 late p.1 old mid a → Follows env.sound_rate stop a mid new s → NextTurn (Evaluates code n) env stop p old new s
+next_turn code n env late stop p old mid new a s same evaluates step = record {
+  part = a;
+  brought = step.brought;
+  mid = mid;
+  end = step.mid;
+  evaluates = subst (λ (q : Env). Evaluates code n p.0.0 q p.1 old mid a) same evaluates;
+  brings = step.brings;
+  places = step.places;
+}
+
+-- ---- one part after another
+
+stops_append : (stop : ℕ) (ss ts : List Sound) → last_stop_of stop (ss ++ ts) ≡ last_stop_of (last_stop_of stop ss) ts
+stops_append stop [] ts = refl
+stops_append stop (s ∷ ss) ts = stops_append s.timing.stop ss ts
+
+nexts_then : (D : Trace) (env : Env) (stop : ℕ) (ps : List Part) (old mid new : HeapState Branch) (ss : List Sound) (p : Part) (s : Sound) → NextsTurn D env stop ps old mid ss → NextTurn D env (last_stop_of stop ss) p mid new s → NextsTurn D env stop (ps ++ p ∷ []) old new (ss ++ s ∷ [])
+nexts_then D env stop [] old mid new [] p s first second = (new, subst (λ (h : HeapState Branch). NextTurn D env stop p h new s) (sym first) second, refl)
+nexts_then D env stop [] old mid new (t ∷ ss) p s first second = absurd first
+nexts_then D env stop (q ∷ ps) old mid new [] p s first second = absurd first
+nexts_then D env stop (q ∷ ps) old mid new (t ∷ ss) p s first second = (first.0, first.1, nexts_then D env t.timing.stop ps first.0 mid new ss p s first.2 second)
+
+pub next_none : (code : Code) (n : ℕ) (env : Env) (names : Names) (parts : Parts) (before : List Sound) (h : HeapState Branch) → HeapLaws h → AreNext code n env names parts before h h before
+next_none code n env names parts before h laws = record { gains = record { others = []; all = sym (append-nil before); hand = hand_none h laws }; turn = refl }
+
+pub next_more : (code : Code) (n : ℕ) (env : Env) (names : Names) (parts : Parts) (before : List Sound) (k : ℕ) (old mid new : HeapState Branch) (ss more : List Sound) (s : Sound) → k ≡ length ss → AreNext code n env names parts before old mid ss → NextTurn (Evaluates code n) env (last_stop_of 0 ss) (part_at names parts k) mid new s → Hand mid new (s ∷ []) → more ≡ ss ++ s ∷ [] → AreNext code n env names parts before old new more
+next_more code n env names parts before k old mid new ss more s count p step hand list = record {
+  gains = record {
+    others = others ++ s ∷ [];
+    all = list ∙ (ap (λ (xs : List Sound). xs ++ s ∷ []) p.gains.all ∙ append_assoc before others (s ∷ []));
+    hand = hand_more old mid new others (s ∷ []) p.gains.hand hand;
+  };
+  turn = subst (λ (ps : List Part). NextsTurn (Evaluates code n) env (last_stop_of 0 before) ps old new (others ++ s ∷ [])) parts_are
+      (nexts_then (Evaluates code n) env (last_stop_of 0 before) (parts_between names parts (length before) (length others)) old mid new others (part_at names parts k) s p.turn
+      (subst (λ m. NextTurn (Evaluates code n) env m (part_at names parts k) mid new s) (ap (last_stop_of 0) p.gains.all ∙ stops_append 0 before others) step));
+}
+  where
+    others : List Sound
+    others = p.gains.others
+
+    place : length before + length others ≡ k
+    place = omega (arith, count, ap length p.gains.all, length-append before others)
+
+    one_more : length (others ++ s ∷ []) ≡ length others + 1
+    one_more = omega (arith, length-append others (s ∷ []))
+
+    parts_are : parts_between names parts (length before) (length others) ++ part_at names parts k ∷ [] ≡ parts_between names parts (length before) (length (others ++ s ∷ []))
+    parts_are = sym (ap (parts_between names parts (length before)) one_more ∙ map-range_with_len_more (part_at names parts) (length before) (length others) k place)
+
+-- a part that was refused leaves those before it
+pub next_refused : (before : List Sound) (old mid new : HeapState Branch) (ss : List Sound) → Gains before old mid ss → Hand mid new [] → Gains before old new ss
+next_refused before old mid new ss p refused = record {
+  others = p.others;
+  all = p.all;
+  hand = subst (λ (xs : List Sound). Hand old new xs) (append-nil p.others) (hand_more old mid new p.others [] p.hand refused);
+}
+
+-- ---- the whole step
+
+range_split : (a m l : ℕ) → range_with_len a (m + l) ≡ range_with_len a m ++ range_with_len (a + m) l
+range_split a zero l =
+    let from : a ≡ a + 0 = omega arith in
+    let count : 0 + l ≡ l = omega arith in
+    λ i. range_with_len (from i) (count i)
+range_split a (suc m) l =
+    let count : suc m + l ≡ suc (m + l) = omega arith in
+    let from : a + 1 + m ≡ a + suc m = omega arith in
+    ap (range_with_len a) count ∙ ap (λ (ns : List ℕ). a ∷ ns) (range_split (a + 1) m l ∙ ap (λ b. range_with_len (a + 1) m ++ range_with_len b l) from)
+
+-- the first part, m parts behind it, and l more
+parts_split : (names : Names) (parts : Parts) (m l k : ℕ) → count_in parts ≡ suc (m + l) → 1 + m ≡ k → parts_in names parts ≡ part_at names parts 0 ∷ (parts_between names parts 1 m ++ parts_between names parts k l)
+parts_split names parts m l k count place =
+    sym (parts_all names parts (suc (m + l)) (sym count))
+    ∙ ap (λ (ps : List Part). part_at names parts 0 ∷ ps)
+    (ap (map (part_at names parts)) (range_split 1 m l)
+    ∙ (map-append (part_at names parts) (range_with_len 1 m) (range_with_len (1 + m) l)
+    ∙ ap (λ b. parts_between names parts 1 m ++ parts_between names parts b l) place))
+
+none_waits : (code : Code) (env : Env) (ps : List Part) (old new : HeapState Branch) (qs : List (Branch × List Sound)) → ps ≡ [] → WaitsTurn code env ps old new qs → qs ≡ []
+none_waits code env ps old new [] none step = refl
+none_waits code env ps old new (q ∷ qs) none step = absurd (subst (λ (xs : List Part). WaitsTurn code env xs old new (q ∷ qs)) none step)
+
+pub seq_turn : (code : Code) (n e : ℕ) (env : Env) (names : Names) (parts : Parts) (t : Timing) (old mid new : HeapState Branch) (ss : List Sound) (s : Sound) → ((bound : Bound) → timed bound ≡ times_in names → t ≡ timing_of (meaning code e env bound)) → length ss ≤ count_in parts → Starts code n env names parts old mid ss → AreEnough t mid.block (count_in parts) ss → RestTurn code env (parts_between names parts (length ss) (count_in parts - length ss)) t ss mid new s → SeqTurn (Evaluates code n) code e (parts_in names parts) env names old new s
+seq_turn code n e env names parts t old mid new ss s when few starts enough rest = record {
+  first = part_at names parts 0;
+  now = parts_between names parts 1 (length others);
+  later = parts_between names parts (length ss) (count_in parts - length ss);
+  all = parts_split names parts (length others) (count_in parts - length ss) (length ss) (omega (arith, size, few)) (omega (arith, size));
+  part = starts.part;
+  brought = starts.brought;
+  others = others;
+  waiting = rest.waiting;
+  t = t;
+  one = starts.one;
+  two = starts.two;
+  three = mid;
+  four = rest.mid;
+  evaluates = starts.evaluates;
+  brings = starts.brings;
+  nexts = starts.next.turn;
+  waits = rest.waits.turn;
+  when = when;
+  not_due = by_enough enough;
+  made = subst (λ (xs : List Sound). MakesUnit rest.mid new Mix t xs (map waiting_of rest.waiting) (xs ++ sounds_of rest.waiting) s) list rest.made;
+}
+  where
+    others : List Sound
+    others = starts.next.gains.others
+
+    list : ss ≡ starts.brought ∷ others
+    list = starts.next.gains.all
+
+    size : length ss ≡ suc (length others)
+    size = ap length list
+
+    by_enough : AreEnough t mid.block (count_in parts) ss → (rest.waiting ≡ []) ⊎ (t.start + rest.mid.block ≤ index_at (last_stop_of 0 (starts.brought ∷ others)) t.rate)
+    by_enough (inl full) =
+        let none : count_in parts - length ss ≡ 0 = omega (arith, full) in
+        inl (none_waits code env (parts_between names parts (length ss) (count_in parts - length ss)) mid rest.mid rest.waiting (ap (λ l. parts_between names parts (length ss) l) none) rest.waits.turn)
+    by_enough (inr late) =
+        inr (subst (λ (xs : List Sound). t.start + rest.mid.block ≤ index_at (last_stop_of 0 xs) t.rate) list (subst (λ b. t.start + b ≤ index_at (last_stop_of 0 ss) t.rate) (sym rest.waits.hand.counts.block) late))
