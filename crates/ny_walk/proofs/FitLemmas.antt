@@ -1,9 +1,8 @@
 -- Evaluation leaves parts that wait within their units.
-use Rattle.std.proofs.Common.{◌≡◌, inl, inr, ℕ, zero, suc, List, [], ◌∷◌, ◌++◌, map, Option, None, Some, refl, sym, ap, subst, ◌∙◌, arith, length, replicate, ◌<◌, take}
-use Rattle.std.specs.Prelude.{zip, slice_get, if◌then◌else◌, Bool, true, false, pos}
+use Rattle.std.proofs.Common.{◌≡◌, inl, inr, ℕ, zero, suc, List, [], ◌∷◌, ◌++◌, map, Option, None, Some, sym, ap, subst, ◌∙◌, arith, length, ◌<◌, take}
+use Rattle.std.specs.Prelude.{zip, if◌then◌else◌, Bool, true, false, pos}
 use Rattle.ny_num.specs.Grid.{index_at}
 use Rattle.ny_num.specs.declared.rate.Rate.{Rate}
-use Rattle.ny_num.specs.declared.timing.Timing.{Timing}
 use Rattle.ny_warp.specs.declared.env.Env.{Env}
 use Rattle.ny_num.specs.Sound.{placed_timing}
 use Rattle.ny_resolve.specs.declared.builtin.Order.TheVariants as order
@@ -23,12 +22,12 @@ use Rattle.ny_check.specs.Values.{scalars_of, number_of, test_of}
 use Rattle.ny_check.specs.Behaviours.{is_one, cue_timing}
 use Rattle.ny_check.specs.Families.{changed_env}
 use Rattle.ny_heap.specs.declared.sound.Sound.{Sound}
-use Rattle.ny_heap.specs.Heap.{Waiting, HeapState}
+use Rattle.ny_heap.specs.Heap.{HeapState}
 use Rattle.ny_heap.specs.Steps.{waiting_of}
 use Rattle.ny_trace.proofs.EvaluationLemmas.{below_all, below_binds}
 use Rattle.ny_hands.specs.declared.branch.Branch.{Branch}
 use Rattle.ny_hands.specs.Frames.{Names, sounds_among}
-use Rattle.ny_trace.specs.Evaluates.{Trace, Part, parts_of, counted_parts, NameTurn, ValueTurn, BindsTurn, ValuesTurn, JoinTurn, PartsTurn, SimTurn, NextTurn, NextsTurn, counted_names, timed_in, times_in, sounds_of_values, WaitsTurn, SeqTurn, NodeTurn, Evaluates}
+use Rattle.ny_trace.specs.Evaluates.{Trace, Part, parts_of, counted_parts, NameTurn, ValueTurn, BindsTurn, ValuesTurn, JoinTurn, PartsTurn, SimTurn, NextTurn, NextsTurn, times_in, sounds_of_values, SeqTurn, NodeTurn, Evaluates}
 use Rattle.ny_walk.specs.Fits.{Fits, IsTold, IsFitting}
 use Rattle.ny_num.specs.Mix.{mix_timing}
 use Rattle.ny_timing.specs.Timings.{times_in_turn, timing_node, timing_at}

@@ -1,5 +1,5 @@
 -- The parts that wait of a sequence that is made end no later than it.
-use Rattle.std.proofs.Common.{◌≡◌, ℕ, zero, suc, ◌+◌, ◌-◌, ◌<◌, ◌≤◌, max, Bool, true, false, cond, List, [], ◌∷◌, ◌++◌, map, reverse, length, get_or, Option, None, Some, refl, sym, ap, subst, ◌∙◌, arith}
+use Rattle.std.proofs.Common.{◌≡◌, ℕ, suc, ◌+◌, ◌-◌, ◌≤◌, max, Bool, true, false, cond, List, [], ◌∷◌, ◌++◌, map, reverse, length, get_or, Option, None, Some, refl, sym, ap, subst, ◌∙◌, arith}
 use Rattle.std.specs.Map.{lookup}
 use Rattle.std.specs.Option.{option_map}
 use Rattle.std.proofs.lemmas.List.{append_assoc, length-append}
@@ -17,7 +17,6 @@ use Rattle.ny_scope.specs.Scopes.{last_of}
 use Rattle.ny_scope.proofs.Mapped.{with_value}
 use Rattle.ny_resolve.specs.declared.term.NameId.{NameId}
 use Rattle.ny_resolve.specs.Keys.{same_name}
-use Rattle.ny_check.specs.declared.node.ExprId.{ExprId}
 use Rattle.ny_check.specs.declared.value.Value.{Value}
 use Rattle.ny_check.specs.declared.value.Value.TheVariants.{Number, Sound as SoundOf}
 use Rattle.ny_check.specs.Code.{Code}
@@ -29,7 +28,7 @@ use Rattle.ny_heap.specs.Heap.{HeapState}
 use Rattle.ny_heap.specs.Steps.{captured_of, waiting_of, last_stop_of}
 use Rattle.ny_hands.specs.declared.branch.Branch.{Branch}
 use Rattle.ny_hands.specs.Frames.{Names}
-use Rattle.ny_trace.specs.Evaluates.{Trace, Part, KeepTurn, KeepsTurn, WaitsTurn, NextTurn, NextsTurn, SeqTurn, times_in}
+use Rattle.ny_trace.specs.Evaluates.{Trace, Part, KeepTurn, KeepsTurn, WaitsTurn, NextsTurn, SeqTurn, times_in}
 use Rattle.ny_trace.specs.Laws.{pick, picked}
 use Rattle.ny_trace.proofs.WaitLemmas.{PartsKeepFree}
 use Rattle.ny_walk.specs.Fits.{kept_times, times_of, part_time, part_times, EndBy, IsTold}

@@ -1,6 +1,6 @@
 -- What calls of a heap do to whether the parts that wait fit.
 use Rattle.std.proofs.Common.{◌≡◌, inl, inr, ℕ, suc, List, [], ◌∷◌, Option, None, Some, sym, ap, subst, ◌∙◌}
-use Rattle.std.specs.Prelude.{get_or, slice_get, Bool, true, false, ℤ}
+use Rattle.std.specs.Prelude.{get_or, Bool, true, false, ℤ}
 use Rattle.std.proofs.lemmas.Bool.{cases_eq}
 use Rattle.ny_num.specs.declared.rate.Rate.{Rate}
 use Rattle.ny_num.specs.declared.timing.Timing.{Timing}

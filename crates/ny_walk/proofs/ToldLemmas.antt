@@ -1,7 +1,6 @@
 -- When a sound is heard that is evaluated: as the timings of its names tell.
 use Rattle.std.proofs.Common.{◌≡◌, inl, inr, ℕ, zero, suc, ◌*◌, ◌<◌, List, [], ◌∷◌, ◌++◌, map, Option, None, Some, refl, sym, ap, subst, ◌∙◌, arith, length, replicate, take}
 use Rattle.std.specs.Prelude.{zip, if◌then◌else◌, cond, Bool, true, false, ℤ, pos, unwrap_or}
-use Rattle.std.specs.Option.{option_map}
 use Rattle.std.specs.List.{range_with_len}
 use Rattle.std.proofs.lemmas.List.{length-replicate, append-nil, append_assoc}
 use Rattle.ny_num.specs.declared.rate.Rate.{Rate}
@@ -10,7 +9,7 @@ use Rattle.ny_num.specs.Grid.{index_at}
 use Rattle.ny_num.specs.Sound as sounds
 use Rattle.ny_num.specs.Sound.{timing_of, placed_timing}
 use Rattle.ny_num.specs.Mix.{mix_timing}
-use Rattle.ny_num.specs.Resampling.{is_same_rate, resampled_timing, other_rate_timing}
+use Rattle.ny_num.specs.Resampling.{resampled_timing, other_rate_timing}
 use Rattle.ny_warp.specs.declared.env.Env.{Env}
 use Rattle.ny_warp.specs.Environment.{from_stop}
 use Rattle.ny_scope.specs.Scopes.{last_of}
@@ -32,18 +31,17 @@ use Rattle.ny_check.specs.Values.{Scalars, scalars_of, scalar_of, scalar_in, num
 use Rattle.ny_check.specs.Behaviours.{is_one, cue_timing}
 use Rattle.ny_check.specs.Families.{pair_timing, leaf_time, changed_env}
 use Rattle.ny_check.specs.Meaning.{Bound}
-use Rattle.ny_timing.specs.Timings.{Timed, timed, timed_value, timing_in, timed_by, timed_value_of, timed_after, combined_times, negated_time, brought_time, times_together, time_of_part, time_of_repeat, times_of_repeats, next_time, no_time, timing_node, timing_at}
+use Rattle.ny_timing.specs.Timings.{Timed, timed, timed_value, timing_in, timed_by, timed_value_of, timed_after, combined_times, negated_time, times_together, time_of_part, time_of_repeat, times_of_repeats, next_time, no_time, timing_node, timing_at}
 use Rattle.ny_timing.proofs.TimesOfSounds.{timing_of-meaning}
 use Rattle.ny_timing.proofs.TimingEquation.{timing_at-is}
 use Rattle.ny_heap.specs.declared.sound.Sound.{Sound}
 use Rattle.ny_heap.specs.Heap.{HeapState}
-use Rattle.ny_heap.specs.Steps.{both_timing}
 use Rattle.ny_hands.specs.declared.branch.Branch.{Branch}
 use Rattle.ny_hands.specs.Calls.{Brings, Stay, Change, BringsEach, IsSilent}
 use Rattle.ny_hands.specs.Frames.{Names}
 use Rattle.ny_trace.proofs.EvaluationLemmas.{below_all, below_binds}
 use Rattle.ny_trace.proofs.FamilyLemmas.{same_timing}
-use Rattle.ny_trace.specs.Evaluates.{Trace, Part, parts_of, counted_parts, counted_names, NameTurn, IsNoNumber, ValueTurn, BindsTurn, ValuesTurn, JoinTurn, PartsTurn, SimTurn, NextTurn, SeqTurn, LouderTurn, numbers_in, timed_in, times_in, NodeTurn, Evaluates}
+use Rattle.ny_trace.specs.Evaluates.{Trace, Part, parts_of, counted_parts, counted_names, NameTurn, IsNoNumber, ValueTurn, BindsTurn, ValuesTurn, JoinTurn, PartsTurn, SimTurn, NextTurn, SeqTurn, LouderTurn, timed_in, times_in, NodeTurn, Evaluates}
 use Rattle.ny_trace.specs.Reveals.{no_sound}
 use Rattle.ny_walk.specs.Fits.{IsTold}
 
