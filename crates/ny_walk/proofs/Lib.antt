@@ -3,6 +3,11 @@ pub mod StayLemmas
 pub mod FillLemmas
 pub mod PartsStepLemmas
 pub mod PartsLemmas
+pub mod ToldLemmas
+pub mod FitSeqLemmas
+pub mod FitStepLemmas
+pub mod FitLemmas
+pub mod FitRevealLemmas
 pub mod RevealLemmas
 pub mod WantLemmas
 pub mod WalkLemmas

@@ -24,8 +24,10 @@ use Rattle.ny_trace.proofs.RevealLemmas.{reveal_later}
 use Rattle.ny_trace.proofs.RisingRevealLemmas.{revealed_stands}
 use Rattle.ny_trace.proofs.SettlingRevealLemmas.{revealed_settled}
 use Rattle.ny_walk.specs.Parts.{AllPartsOf, IsMakingParts}
+use Rattle.ny_walk.specs.Fits.{IsTold, IsFitting}
 use Rattle.ny_walk.proofs.PartsStepLemmas.{parts_like, parts_released}
 use Rattle.ny_walk.proofs.PartsLemmas.{next_parts}
+use Rattle.ny_walk.proofs.FitRevealLemmas.{turn_fits}
 use Rattle.ny_walk.specs.Below.{IsSettled, SettledButOne, IsHeldAbove, Continues, Below, Revealed}
 use Rattle.ny_walk.proofs.StayLemmas.{ChangesOne, high_reached, held_reached}
 
@@ -66,7 +68,7 @@ module _ (code : Code) (tall : ℕ → ℕ) (old new : HeapState Branch) (laws :
 
 -- ---- a turn
 
-module _ (code : Code) (D : Trace) (law : IsLawful code D) (tall : ℕ → ℕ) (rising : IsRising code tall D) (settles : IsSettling D) (makes : IsMakingParts code D) (old new : HeapState Branch) (u : ℕ) (turn : RevealTurn D old new u) (laws : HeapLaws old) (inside : turn.part.branch.expr.0 < length code.nodes) where
+module _ (code : Code) (D : Trace) (law : IsLawful code D) (tall : ℕ → ℕ) (rising : IsRising code tall D) (settles : IsSettling D) (makes : IsMakingParts code D) (told : IsTold code D) (fitting : IsFitting code D) (old new : HeapState Branch) (u : ℕ) (turn : RevealTurn D old new u) (laws : HeapLaws old) (inside : turn.part.branch.expr.0 < length code.nodes) where
   shows : IsRevealed old new u
   shows = revealed code D law old turn.mid u turn.sound turn.part laws inside new turn.attaches
 
@@ -121,6 +123,7 @@ module _ (code : Code) (D : Trace) (law : IsLawful code D) (tall : ℕ → ℕ) 
     laws = shows.laws;
     settled = λ all. revealed_settled code D law settles old new u turn laws inside (λ v. nat_eq v u) (eq-eqb u u refl) all;
     parts = turn_parts;
+    fits = turn_fits code D law told fitting old new u turn laws inside;
     unit = shows.unit;
     was = shows.was;
     later = revealed_node shows.part shows.unit;

@@ -15,10 +15,14 @@ use Rattle.ny_trace.proofs.SettlingLemmas.{evaluates_settling}
 use Rattle.ny_walk.specs.Walk.{EvaluatesIn, PartTurn, WalksWants, FillsThen, WalksInOrder, Walks}
 use Rattle.ny_walk.specs.Stops.{StopsAtFull, RunsOut, NoneWaits}
 use Rattle.ny_walk.specs.Parts.{IsMakingParts}
+use Rattle.ny_walk.specs.Fits.{Fits, IsTold, IsFitting}
 use Rattle.ny_walk.specs.Below.{IsSettled, IsRanked, Walked, Stopped, Revealed, WantsSoFar, RevealsSoFar}
 use Rattle.ny_walk.specs.Heard.{StaysHeard}
 use Rattle.ny_walk.proofs.HeardLemmas.{stays_heard}
 use Rattle.ny_walk.proofs.PartsLemmas.{evaluates_parts}
+use Rattle.ny_walk.proofs.ToldLemmas.{evaluates_told}
+use Rattle.ny_walk.proofs.FitLemmas.{evaluates_fit}
+use Rattle.ny_walk.proofs.FitRevealLemmas.{turn_fits}
 use Rattle.ny_walk.proofs.RevealLemmas.{turn_reveals}
 use Rattle.ny_walk.proofs.WalkLemmas.{wants_leave, fills_leave, walk_leaves, stop_leaves, stops_full}
 use Rattle.ny_walk.proofs.QuietLemmas.{quiet_walk, quiet_enough}
@@ -36,9 +40,19 @@ settling_in code e env names old new s t but all = evaluates_settling code t.0 e
 making_in : (code : Code) → IsOrdered code → IsMakingParts code (EvaluatesIn code)
 making_in code ordered e env names old new s t inside all = evaluates_parts code ordered t.0 e env names old new s t.1 inside all
 
+told_in : (code : Code) → IsOrdered code → IsTold code (EvaluatesIn code)
+told_in code ordered e env names old new s t inside = evaluates_told code ordered t.0 e env names old new s t.1 inside
+
+fitting_in : (code : Code) → IsOrdered code → KeepsFree code → IsFitting code (EvaluatesIn code)
+fitting_in code ordered free e env names old new s t inside all = evaluates_fit code ordered free t.0 e env names old new s t.1 inside all
+
 pub part_reveals : (code : Code) → IsOrdered code → KeepsFree code → (tall : ℕ → ℕ) → IsTall code tall → (old new : HeapState Branch) (u : ℕ) → HeapLaws old → PartTurn code old u new → Revealed code tall old new u
 part_reveals code ordered free tall is old new u laws part =
-    turn_reveals code (EvaluatesIn code) (lawful_in code ordered free) tall (rising_in code ordered free tall is) (settling_in code) (making_in code ordered) old new u part.turn laws part.inside
+    turn_reveals code (EvaluatesIn code) (lawful_in code ordered free) tall (rising_in code ordered free tall is) (settling_in code) (making_in code ordered) (told_in code ordered) (fitting_in code ordered free) old new u part.turn laws part.inside
+
+-- a reveal leaves parts that fit
+pub part_turn_fits : (code : Code) → IsOrdered code → KeepsFree code → (old new : HeapState Branch) (u : ℕ) → HeapLaws old → PartTurn code old u new → Fits code old → Fits code new
+part_turn_fits code ordered free old new u laws part all = turn_fits code (EvaluatesIn code) (lawful_in code ordered free) (told_in code ordered) (fitting_in code ordered free) old new u part.turn laws part.inside all
 
 pub part_waits : (code : Code) (old new : HeapState Branch) (u : ℕ) → PartTurn code old u new → (x : Node Branch) × (node_at old u ≡ Some x) × (0 < length x.waiting)
 part_waits code old new u part =

@@ -13,6 +13,7 @@ use Rattle.ny_walk.specs.Stops.{StopsHere, StopsBelow, StopsThen, StopsInOrder}
 use Rattle.ny_walk.specs.Below.{IsSettled, SettledButOne, IsRanked, Below, Walked, Stopped, Revealed, WantsSoFar, RevealsSoFar}
 use Rattle.ny_walk.proofs.BelowLemmas.{held_above, Below-none, Below-more, Below-wider}
 use Rattle.ny_walk.proofs.FillLemmas.{left_node, fill_parts, Fills-drives}
+use Rattle.ny_walk.proofs.FitRevealLemmas.{fill_fits}
 use Rattle.ny_walk.proofs.RevealLemmas.{all_settled}
 use Rattle.ny_walk.proofs.WantLemmas.{wanted, wanted_uses, wanted_open}
 
@@ -61,6 +62,7 @@ module _ (code : Code) (tall : ℕ → ℕ) where
     start = ranked;
     settled = settled;
     parts = λ all. all;
+    fits = λ all. all;
     ranked = ranked;
     same = refl;
     below = λ rank ranks. Below-none code tall h rank (rank u) ranks;
@@ -72,6 +74,7 @@ module _ (code : Code) (tall : ℕ → ℕ) where
     start = so.start;
     settled = walked.settled;
     parts = λ all. walked.parts (so.parts all);
+    fits = λ all. walked.fits (so.fits all);
     ranked =
         let d = walked.drives so.ranked.rank so.ranked.ranks in
         let u_same = d.below.same u x here (omega (arith, falls so.ranked.rank so.ranked.ranks)) in
@@ -100,6 +103,7 @@ module _ (code : Code) (tall : ℕ → ℕ) where
     laws = stopped.laws;
     settled = stopped.settled;
     parts = λ all. stopped.parts (so.parts all);
+    fits = λ all. stopped.fits (so.fits all);
     below = λ rank ranks.
         let first = so.below rank ranks in
         let u_same = first.same u x there (omega arith) in
@@ -110,7 +114,7 @@ module _ (code : Code) (tall : ℕ → ℕ) where
 
   pub stops_at : (old mid new : HeapState Branch) (u left : ℕ) → WantsSoFar code tall old mid u left → new ≡ mid → Stopped code tall old new u
   stops_at old mid new u left so same =
-      subst (λ (h : HeapState Branch). Stopped code tall old h u) (sym same) (record { laws = so.laws; settled = so.settled; parts = so.parts; below = so.below })
+      subst (λ (h : HeapState Branch). Stopped code tall old h u) (sym same) (record { laws = so.laws; settled = so.settled; parts = so.parts; fits = so.fits; below = so.below })
 
   -- ---- the fill, and the parts that fall due
 
@@ -119,6 +123,7 @@ module _ (code : Code) (tall : ℕ → ℕ) where
     laws = turn.laws;
     settled = fill_settled mid new u turn so.settled;
     parts = λ all. fill_parts code mid new u turn.fills (so.parts all);
+    fits = λ all. fill_fits code mid new u turn.fills (so.fits all);
     unit = unit_now.0;
     there = unit_now.1;
     pending = fill_pending mid new u turn so.settled unit_now.0 unit_now.1;
@@ -143,6 +148,7 @@ module _ (code : Code) (tall : ℕ → ℕ) where
     laws = shows.laws;
     settled = shows.settled so.settled;
     parts = λ all. shows.parts (so.parts all);
+    fits = λ all. shows.fits (so.fits all);
     unit = shows.later;
     there = shows.after;
     pending = shows.pending ∙ ap (λ (q : Node Branch). q.pending) (same_at (node_at mid u) shows.unit so.unit shows.was so.there) ∙ so.pending;
@@ -185,7 +191,7 @@ module _ (code : Code) (tall : ℕ → ℕ) where
     walk_leaves zero old new u left us x there laws settled ranked walk = absurd walk
     walk_leaves (suc n) old new u left us x there laws settled ranked walk =
         let so = fills_leave (WalksInOrder R n) (walk_leaves n) old new u left us x there laws settled ranked walk.fills in
-        record { laws = so.laws; settled = all_settled new u so.unit so.there so.pending walk.over so.settled; parts = so.parts; drives = so.drives }
+        record { laws = so.laws; settled = all_settled new u so.unit so.there so.pending walk.over so.settled; parts = so.parts; fits = so.fits; drives = so.drives }
 
     -- ---- a walk that stops
 

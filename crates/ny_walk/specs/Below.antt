@@ -12,6 +12,7 @@ use Rattle.ny_hands.specs.Hands.{marks_at}
 use Rattle.ny_trace.specs.Heights.{Ranks}
 use Rattle.ny_trace.specs.Settled.{SettledBut}
 use Rattle.ny_walk.specs.Parts.{AllPartsOf}
+use Rattle.ny_walk.specs.Fits.{Fits}
 
 -- no part of any unit is due, and none is still to be attached
 abbrev pub IsSettled : {B : Type 0} → HeapState B → Type 0
@@ -75,6 +76,7 @@ pub record Walked (code : Code) (tall : ℕ → ℕ) (old new : HeapState Branch
   pub laws : HeapLaws new
   pub settled : IsSettled new
   pub parts : AllPartsOf code old → AllPartsOf code new
+  pub fits : Fits code old → Fits code new
   pub drives : (rank : ℕ → ℕ) → Ranks tall old rank → Drives code tall old new u rank
 
 -- what one that stops leaves: u has no block more
@@ -82,6 +84,7 @@ pub record Stopped (code : Code) (tall : ℕ → ℕ) (old new : HeapState Branc
   pub laws : HeapLaws new
   pub settled : IsSettled new
   pub parts : AllPartsOf code old → AllPartsOf code new
+  pub fits : Fits code old → Fits code new
   pub below : (rank : ℕ → ℕ) → Ranks tall old rank → Below code tall old new rank (rank u)
 
 -- what a part that is revealed leaves: its unit has one fewer that waits
@@ -89,6 +92,7 @@ pub record Revealed (code : Code) (tall : ℕ → ℕ) (old new : HeapState Bran
   pub laws : HeapLaws new
   pub settled : SettledButOne u old → SettledButOne u new
   pub parts : AllPartsOf code old → AllPartsOf code new
+  pub fits : Fits code old → Fits code new
   pub unit : Node Branch
   pub was : node_at old u ≡ Some unit
   pub later : Node Branch
@@ -106,6 +110,7 @@ pub record WantsSoFar (code : Code) (tall : ℕ → ℕ) (old new : HeapState Br
   pub start : IsRanked tall old u left
   pub settled : IsSettled new
   pub parts : AllPartsOf code old → AllPartsOf code new
+  pub fits : Fits code old → Fits code new
   pub ranked : IsRanked tall new u left
   pub same : node_at new u ≡ node_at old u
   pub below : (rank : ℕ → ℕ) → Ranks tall old rank → Below code tall old new rank (rank u)
@@ -115,6 +120,7 @@ pub record RevealsSoFar (code : Code) (tall : ℕ → ℕ) (old new : HeapState 
   pub laws : HeapLaws new
   pub settled : SettledButOne u new
   pub parts : AllPartsOf code old → AllPartsOf code new
+  pub fits : Fits code old → Fits code new
   pub unit : Node Branch
   pub there : node_at new u ≡ Some unit
   pub pending : unit.pending ≡ 0

@@ -4,3 +4,4 @@ pub mod Fills
 pub mod Parts
 pub mod Below
 pub mod Heard
+pub mod Fits

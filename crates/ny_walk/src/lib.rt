@@ -4,6 +4,8 @@
 //! The rules stand in `docs/DEFINITIONS.md`, "The walk".
 #![tactic(auto)]
 
+mod fits;
 mod laws;
 
+pub use fits::fit_laws;
 pub use laws::walk_laws;
