@@ -167,6 +167,13 @@ impl<B> Heap<B> {
         self.table.units.as_slice().len()
     }
 
+    /// How many samples a block has.
+    pub fn block(&self) -> u32
+        ensures { result ≡ self.now.block }
+    {
+        self.table.block
+    }
+
     /// How many fills succeeded, or 2^64 - 1 where that is greater.
     pub fn fills(&self) -> u64
         ensures fills { result ≡ self.now.fills }
