@@ -11,7 +11,7 @@ pub mod UnitLemmas
 pub mod LeafLemmas
 pub mod EnvelopeLemmas
 pub mod ShapeLemmas
-pub mod PlayedLemmas
+pub mod ProgramLemmas
 pub mod EvalLemmas
 pub mod ChannelLemmas
 pub mod FrameLemmas

@@ -11,6 +11,7 @@ mod envelope;
 mod expression;
 mod filter;
 mod frame;
+mod laws;
 mod leaf;
 mod mixing;
 mod name;
