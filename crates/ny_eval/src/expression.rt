@@ -1,4 +1,4 @@
-ghost use Rattle.std.specs.Prelude.{◌≡◌, ℕ, ◌+◌, ◌*◌, ◌<◌, ◌≤◌, max, length, take, true, if◌then◌else◌, [], ◌∷◌, IfOk, OnErr, OnOk, vec_capacity};
+ghost use Rattle.std.specs.Prelude.{◌≡◌, ℕ, ◌+◌, ◌*◌, ◌<◌, ◌≤◌, max, length, take, if◌then◌else◌, [], ◌∷◌, IfOk, OnErr, OnOk, vec_capacity};
 ghost use Rattle.ny_check.specs.Code.{AllBelow, BindsBelow, IsChangeBelow, function_at};
 ghost use Rattle.ny_check.specs.Families.{changed_env};
 ghost use Rattle.ny_check.specs.Values.{scalars_of, number_of};
@@ -678,7 +678,9 @@ fn first_block(
     let sound = brought(alloc, first, env.sound_rate, heap)?;
     let stop = stop_of(&sound);
     sounds.push_reserved(sound);
-    Ok(due_parts(alloc, p, e, parts, when, block, stop, env, frame, sounds, heap)?)
+    Ok(due_parts(
+        alloc, p, e, parts, when, block, stop, env, frame, sounds, heap,
+    )?)
 }
 
 /// Parts one after another, in an environment: those whose places lie in the first block are evaluated, and the others wait.
@@ -708,7 +710,9 @@ fn in_turn(
     let when = whole_timing(alloc, p, e, &env, frame)?;
     let block = heap.block();
     let mut there = Vec::new(alloc);
-    match first_block(alloc, p, e, &parts, &when, block, &env, frame, &mut there, heap) {
+    match first_block(
+        alloc, p, e, &parts, &when, block, &env, frame, &mut there, heap,
+    ) {
         Ok(()) => Ok(with_rest(alloc, p, &parts, there, when, &env, frame, heap)?),
         Err(fault) => {
             give_up_all(VecDeque::from(there), heap);

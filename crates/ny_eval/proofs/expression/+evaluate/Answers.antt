@@ -1,4 +1,4 @@
-use Rattle.std.proofs.Common.{◌≡◌, length-append, rules, ◌+◌, ◌<◌, true, List, [], ◌∷◌, length, take, get_or, arith, refl, sym, ap, subst, ◌∙◌, ◌++◌, inl, ◌-◌}
+use Rattle.std.proofs.Common.{length-append, rules, ◌+◌, ◌<◌, List, [], ◌∷◌, length, take, get_or, arith, refl, sym, ap, subst, ◌∙◌, ◌++◌, inl, ◌-◌}
 use Rattle.std.proofs.lemmas.Int.{ints}
 use Rattle.std.proofs.lemmas.List.{drop_more}
 use Rattle.ny_hands.specs.Hands.{GivesUp, Hand}
@@ -645,11 +645,6 @@ due_parts-returns-in_err-sound-clause-gains t c =
 pub first_block-part-requires : goal.first_block-part-requires
 first_block-part-requires t c = (omega (arith, c.decreases), (c.requires.inside, (c.requires.below, (c.requires.some, c.requires.names))))
 
-pub first_block-due_parts-requires : goal.first_block-due_parts-requires
-first_block-due_parts-requires t c =
-    (omega (arith, c.decreases), (c.requires.inside, (c.requires.below, ((held_after c.args.heap.now c.brought.new.heap (c.in_ok-sound.sound ∷ []) c.args.frame.now c.part.new.frame c.lawful.ensures (hand_brought c.args.heap.now c.part.new.heap c.brought.new.heap c.args.env.now.sound_rate c.in_ok-first.first c.in_ok-sound.sound [] c.lawful.ensures (part_hand c.args.p.now c.program_laws.ensures.ordered c.program_laws.ensures.free c.args.e.0 c.in_ok-copy.field-0 (names_in c.args.frame.now) c.args.parts.now 0 c.args.heap.now c.part.new.heap c.in_ok-first.first c.requires.inside c.requires.some c.requires.below c.lawful.ensures c.requires.names c.in_ok-first.ensures.evaluates) c.in_ok-sound.ensures.brings) c.part.ensures.same c.requires.names), ((omega (arith, c.requires.some, ap length (c.push_reserved.ensures.items ∙ ap (λ (xs : List Sound). xs ++ c.in_ok-sound.sound ∷ []) (c.reserve.ensures.items ∙ c.requires.none)))), ((c.stop_of-stop.ensures ∙ sym (ap (last_stop_of 0) (c.push_reserved.ensures.items ∙ ap (λ (xs : List Sound). xs ++ c.in_ok-sound.sound ∷ []) (c.reserve.ensures.items ∙ c.requires.none)))), (let hand = (hand_brought c.args.heap.now c.part.new.heap c.brought.new.heap c.args.env.now.sound_rate c.in_ok-first.first c.in_ok-sound.sound [] c.lawful.ensures (part_hand c.args.p.now c.program_laws.ensures.ordered c.program_laws.ensures.free c.args.e.0 c.in_ok-copy.field-0 (names_in c.args.frame.now) c.args.parts.now 0 c.args.heap.now c.part.new.heap c.in_ok-first.first c.requires.inside c.requires.some c.requires.below c.lawful.ensures c.requires.names c.in_ok-first.ensures.evaluates) c.in_ok-sound.ensures.brings) in
-    c.requires.block ∙ sym hand.counts.block)))))))
-
 pub first_block-returns-in_err-reserve-clause-hand : goal.first_block-returns-in_err-reserve-clause-hand
 first_block-returns-in_err-reserve-clause-hand t c = hand_still c.args.heap.now c.args.heap.now c.args.heap.now [] c.reserve.new.self.items refl (c.reserve.ensures.items ∙ c.requires.none) (hand_none c.args.heap.now c.lawful.ensures)
 
@@ -660,22 +655,42 @@ pub first_block-returns-in_err-first-clause-hand : goal.first_block-returns-in_e
 first_block-returns-in_err-first-clause-hand t c = hand_still c.args.heap.now c.part.new.heap c.part.new.heap [] c.reserve.new.self.items refl (c.reserve.ensures.items ∙ c.requires.none) c.in_err-first.ensures.refused
 
 pub first_block-brought-requires : goal.first_block-brought-requires
-first_block-brought-requires t c = record { hands = all_in_hand c.args.heap.now c.part.new.heap (c.in_ok-first.first ∷ []) c.lawful.ensures (part_hand c.args.p.now c.program_laws.ensures.ordered c.program_laws.ensures.free c.args.e.0 c.in_ok-copy.field-0 (names_in c.args.frame.now) c.args.parts.now 0 c.args.heap.now c.part.new.heap c.in_ok-first.first c.requires.inside c.requires.some c.requires.below c.lawful.ensures c.requires.names c.in_ok-first.ensures.evaluates) }
+first_block-brought-requires t c =
+    let one = part_hand c.args.p.now c.program_laws.ensures.ordered c.program_laws.ensures.free c.args.e.0 c.in_ok-copy.field-0 (names_in c.args.frame.now) c.args.parts.now 0 c.args.heap.now c.part.new.heap c.in_ok-first.first c.requires.inside c.requires.some c.requires.below c.lawful.ensures c.requires.names c.in_ok-first.ensures.evaluates in
+    record { hands = all_in_hand c.args.heap.now c.part.new.heap (c.in_ok-first.first ∷ []) c.lawful.ensures one }
 
 pub first_block-returns-in_err-sound-clause-hand : goal.first_block-returns-in_err-sound-clause-hand
 first_block-returns-in_err-sound-clause-hand t c =
+    let one = part_hand c.args.p.now c.program_laws.ensures.ordered c.program_laws.ensures.free c.args.e.0 c.in_ok-copy.field-0 (names_in c.args.frame.now) c.args.parts.now 0 c.args.heap.now c.part.new.heap c.in_ok-first.first c.requires.inside c.requires.some c.requires.below c.lawful.ensures c.requires.names c.in_ok-first.ensures.evaluates in
     hand_still c.args.heap.now c.brought.new.heap c.brought.new.heap [] c.reserve.new.self.items refl (c.reserve.ensures.items ∙ c.requires.none)
-    (all_given_up c.args.heap.now c.part.new.heap c.brought.new.heap (c.in_ok-first.first ∷ []) c.lawful.ensures (part_hand c.args.p.now c.program_laws.ensures.ordered c.program_laws.ensures.free c.args.e.0 c.in_ok-copy.field-0 (names_in c.args.frame.now) c.args.parts.now 0 c.args.heap.now c.part.new.heap c.in_ok-first.first c.requires.inside c.requires.some c.requires.below c.lawful.ensures c.requires.names c.in_ok-first.ensures.evaluates) c.in_err-sound.ensures.gives_up)
+    (all_given_up c.args.heap.now c.part.new.heap c.brought.new.heap (c.in_ok-first.first ∷ []) c.lawful.ensures one c.in_err-sound.ensures.gives_up)
+
+pub first_block-due_parts-requires : goal.first_block-due_parts-requires
+first_block-due_parts-requires t c =
+    let one = part_hand c.args.p.now c.program_laws.ensures.ordered c.program_laws.ensures.free c.args.e.0 c.in_ok-copy.field-0 (names_in c.args.frame.now) c.args.parts.now 0 c.args.heap.now c.part.new.heap c.in_ok-first.first c.requires.inside c.requires.some c.requires.below c.lawful.ensures c.requires.names c.in_ok-first.ensures.evaluates in
+    let hand = hand_brought c.args.heap.now c.part.new.heap c.brought.new.heap c.args.env.now.sound_rate c.in_ok-first.first c.in_ok-sound.sound [] c.lawful.ensures one c.in_ok-sound.ensures.brings in
+    let list = c.push_reserved.ensures.items ∙ ap (λ (xs : List Sound). xs ++ c.in_ok-sound.sound ∷ []) (c.reserve.ensures.items ∙ c.requires.none) in
+    let names = held_after c.args.heap.now c.brought.new.heap (c.in_ok-sound.sound ∷ []) c.args.frame.now c.part.new.frame c.lawful.ensures hand c.part.ensures.same c.requires.names in
+    (omega (arith, c.decreases), (c.requires.inside, (c.requires.below, (names, (omega (arith, c.requires.some, ap length list), (c.stop_of-stop.ensures ∙ sym (ap (last_stop_of 0) list), c.requires.block ∙ sym hand.counts.block))))))
 
 pub first_block-returns-clause-starts : goal.first_block-returns-clause-starts
 first_block-returns-clause-starts t c =
-    starts_with c.args.p.now c.args.e.0 c.args.env.now c.in_ok-copy.field-0 c.args.frame.now c.part.new.frame c.args.parts.now c.args.heap.now c.part.new.heap c.brought.new.heap c.due_parts.new.heap c.in_ok-first.first c.in_ok-sound.sound c.push_reserved.new.self.items c.due_parts.new.sounds.items c.in_ok-copy.ensures c.part.ensures.same (c.push_reserved.ensures.items ∙ ap (λ (xs : List Sound). xs ++ c.in_ok-sound.sound ∷ []) (c.reserve.ensures.items ∙ c.requires.none)) c.in_ok-first.ensures.evaluates c.in_ok-sound.ensures.brings c.in_ok-due_parts.ensures.next
+    let list = c.push_reserved.ensures.items ∙ ap (λ (xs : List Sound). xs ++ c.in_ok-sound.sound ∷ []) (c.reserve.ensures.items ∙ c.requires.none) in
+    starts_with c.args.p.now c.args.e.0 c.args.env.now c.in_ok-copy.field-0 c.args.frame.now c.part.new.frame c.args.parts.now c.args.heap.now c.part.new.heap c.brought.new.heap c.due_parts.new.heap c.in_ok-first.first c.in_ok-sound.sound c.push_reserved.new.self.items c.due_parts.new.sounds.items c.in_ok-copy.ensures c.part.ensures.same list c.in_ok-first.ensures.evaluates c.in_ok-sound.ensures.brings c.in_ok-due_parts.ensures.next
 
 pub first_block-returns-in_err-due_parts-clause-hand : goal.first_block-returns-in_err-due_parts-clause-hand
-first_block-returns-in_err-due_parts-clause-hand t c = gained_hand c.args.heap.now c.brought.new.heap c.due_parts.new.heap c.push_reserved.new.self.items c.due_parts.new.sounds.items (subst (λ (xs : List Sound). Hand c.args.heap.now c.brought.new.heap xs) (sym (c.push_reserved.ensures.items ∙ ap (λ (xs : List Sound). xs ++ c.in_ok-sound.sound ∷ []) (c.reserve.ensures.items ∙ c.requires.none))) (hand_brought c.args.heap.now c.part.new.heap c.brought.new.heap c.args.env.now.sound_rate c.in_ok-first.first c.in_ok-sound.sound [] c.lawful.ensures (part_hand c.args.p.now c.program_laws.ensures.ordered c.program_laws.ensures.free c.args.e.0 c.in_ok-copy.field-0 (names_in c.args.frame.now) c.args.parts.now 0 c.args.heap.now c.part.new.heap c.in_ok-first.first c.requires.inside c.requires.some c.requires.below c.lawful.ensures c.requires.names c.in_ok-first.ensures.evaluates) c.in_ok-sound.ensures.brings)) c.due_parts.ensures.gains
+first_block-returns-in_err-due_parts-clause-hand t c =
+    let one = part_hand c.args.p.now c.program_laws.ensures.ordered c.program_laws.ensures.free c.args.e.0 c.in_ok-copy.field-0 (names_in c.args.frame.now) c.args.parts.now 0 c.args.heap.now c.part.new.heap c.in_ok-first.first c.requires.inside c.requires.some c.requires.below c.lawful.ensures c.requires.names c.in_ok-first.ensures.evaluates in
+    let hand = hand_brought c.args.heap.now c.part.new.heap c.brought.new.heap c.args.env.now.sound_rate c.in_ok-first.first c.in_ok-sound.sound [] c.lawful.ensures one c.in_ok-sound.ensures.brings in
+    let list = c.push_reserved.ensures.items ∙ ap (λ (xs : List Sound). xs ++ c.in_ok-sound.sound ∷ []) (c.reserve.ensures.items ∙ c.requires.none) in
+    gained_hand c.args.heap.now c.brought.new.heap c.due_parts.new.heap c.push_reserved.new.self.items c.due_parts.new.sounds.items (subst (λ (xs : List Sound). Hand c.args.heap.now c.brought.new.heap xs) (sym list) hand) c.due_parts.ensures.gains
 
 pub first_block-returns-clause-hand : goal.first_block-returns-clause-hand
-first_block-returns-clause-hand t c = gained_hand c.args.heap.now c.brought.new.heap c.due_parts.new.heap c.push_reserved.new.self.items c.due_parts.new.sounds.items (subst (λ (xs : List Sound). Hand c.args.heap.now c.brought.new.heap xs) (sym (c.push_reserved.ensures.items ∙ ap (λ (xs : List Sound). xs ++ c.in_ok-sound.sound ∷ []) (c.reserve.ensures.items ∙ c.requires.none))) (hand_brought c.args.heap.now c.part.new.heap c.brought.new.heap c.args.env.now.sound_rate c.in_ok-first.first c.in_ok-sound.sound [] c.lawful.ensures (part_hand c.args.p.now c.program_laws.ensures.ordered c.program_laws.ensures.free c.args.e.0 c.in_ok-copy.field-0 (names_in c.args.frame.now) c.args.parts.now 0 c.args.heap.now c.part.new.heap c.in_ok-first.first c.requires.inside c.requires.some c.requires.below c.lawful.ensures c.requires.names c.in_ok-first.ensures.evaluates) c.in_ok-sound.ensures.brings)) c.due_parts.ensures.gains
+first_block-returns-clause-hand t c =
+    let one = part_hand c.args.p.now c.program_laws.ensures.ordered c.program_laws.ensures.free c.args.e.0 c.in_ok-copy.field-0 (names_in c.args.frame.now) c.args.parts.now 0 c.args.heap.now c.part.new.heap c.in_ok-first.first c.requires.inside c.requires.some c.requires.below c.lawful.ensures c.requires.names c.in_ok-first.ensures.evaluates in
+    let hand = hand_brought c.args.heap.now c.part.new.heap c.brought.new.heap c.args.env.now.sound_rate c.in_ok-first.first c.in_ok-sound.sound [] c.lawful.ensures one c.in_ok-sound.ensures.brings in
+    let list = c.push_reserved.ensures.items ∙ ap (λ (xs : List Sound). xs ++ c.in_ok-sound.sound ∷ []) (c.reserve.ensures.items ∙ c.requires.none) in
+    gained_hand c.args.heap.now c.brought.new.heap c.due_parts.new.heap c.push_reserved.new.self.items c.due_parts.new.sounds.items (subst (λ (xs : List Sound). Hand c.args.heap.now c.brought.new.heap xs) (sym list) hand) c.due_parts.ensures.gains
 
 -- ---- parts one after another
 
