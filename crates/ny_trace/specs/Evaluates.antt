@@ -1,5 +1,5 @@
 -- Evaluation as one trace of calls of a heap. What it means, what it leaves alone and how high its units stand follow from it.
-use Rattle.std.specs.Prelude.{◌≡◌, ◌⊎◌, ◌+◌, ◌*◌, ◌≤◌, ℕ, zero, suc, Bool, true, false, List, [], ◌∷◌, ◌++◌, map, zip, get_or, if◌then◌else◌, Option, None, Some, ℤ, pos, length, take}
+use Rattle.std.specs.Prelude.{◌≡◌, ◌⊎◌, ◌+◌, ◌*◌, ◌<◌, ◌≤◌, ℕ, zero, suc, Bool, true, false, List, [], ◌∷◌, ◌++◌, map, zip, get_or, if◌then◌else◌, Option, None, Some, ℤ, pos, length, take}
 use Rattle.std.specs.List.{range_with_len}
 use Rattle.ny_num.specs.Numbers.{sat_sample}
 use Rattle.ny_num.specs.Grid.{index_at}
@@ -221,6 +221,11 @@ abbrev pub times_in : Names → Timed
 times_in [] = []
 times_in (b ∷ bs) = (b.0, timed_in b.1) ∷ times_in bs
 
+-- each of these parts follows a stop whose place lies before this index
+abbrev pub AreDue : ℕ → Rate → ℕ → List Handle → Type 0
+AreDue end r stop [] = Unit {0}
+AreDue end r stop (s ∷ ss) = (index_at stop r < end) × AreDue end r s.timing.stop ss
+
 -- the parts whose places lie in the first block are evaluated, and the others wait. `t` is what the timings of names tell
 pub record SeqTurn (D : Trace) (code : Code) (e : ℕ) (ps : List Part) (env : Env) (names : Names) (old new : HeapState Branch) (s : Handle) : Type 0 where
   pub first : Part
@@ -241,7 +246,8 @@ pub record SeqTurn (D : Trace) (code : Code) (e : ℕ) (ps : List Part) (env : E
   pub nexts : NextsTurn D env brought.timing.stop now two three others
   pub waits : WaitsTurn code env later three four waiting
   pub when : (bound : Bound) → timed bound ≡ times_in names → t ≡ timing_of (meaning code e env bound)
-  -- no part that waits is due
+  -- behind the first part, those that are due and no other
+  pub due : AreDue (t.start + four.block) t.rate brought.timing.stop others
   pub not_due : (waiting ≡ []) ⊎ (t.start + four.block ≤ index_at (last_stop_of 0 (brought ∷ others)) t.rate)
   pub made : MakesUnit four new Mix t (brought ∷ others) (map waiting_of waiting) ((brought ∷ others) ++ sounds_of waiting) s
 

@@ -1,6 +1,7 @@
 -- A fill leaves alone what stands higher than its unit.
 use Rattle.std.proofs.Common.{◌≡◌, ◌⊎◌, inl, inr, ℕ, zero, suc, ◌+◌, Bool, true, false, cond, nat_lt, List, [], ◌∷◌, ◌++◌, ◌<◌, length, map, get_or, slice_get, slice_index, Option, None, Some, sum, refl, sym, ap, subst, ◌∙◌, arith}
 use Rattle.std.proofs.lemmas.Bool.{cases_eq}
+use Rattle.std.proofs.lemmas.List.{length-map}
 use Rattle.std.specs.List.{fold}
 use Rattle.std.specs.Option.{option_map_or}
 use Rattle.ny_check.specs.Code.{Code}
@@ -15,7 +16,7 @@ use Rattle.ny_hands.proofs.OptionLemmas.{same_at}
 use Rattle.ny_hands.proofs.HeapLemmas.{reached_stays}
 use Rattle.ny_hands.proofs.HandLemmas.{marks_there, trimmed_marks}
 use Rattle.ny_trace.specs.Heights.{Ranks}
-use Rattle.ny_walk.specs.Parts.{AllPartsOf}
+use Rattle.ny_walk.specs.Parts.{AreKept, HasPartsOf, AllPartsOf}
 use Rattle.ny_walk.specs.Below.{Continues, Drives}
 use Rattle.ny_walk.proofs.StayLemmas.{ChangesOne, high_reached, held_reached}
 
@@ -115,17 +116,18 @@ module _ {B : Type 0} (old new : HeapState B) (u : ℕ) (fills : Fills old new u
         | inr other ↦ ap (λ o. option_map_or (λ (y : Node B). slice_index y.outside j) o 0) (fills.filled.others v other)
       ]
 
+filled_inputs : {B : Type 0} (block : ℕ) (memory : Memory) (x : Node B) → length (filled_node block memory x).inputs ≡ length x.inputs
+filled_inputs block memory x = length-map x.inputs (cond (nat_lt (x.filled + 1) (blocks_of block x.timing.len)) (moved block x (x.filled + 1)) (λ r. None))
+
 -- the parts that wait are those that did
 pub fill_parts : (code : Code) (old new : HeapState Branch) (u : ℕ) → Fills old new u → AllPartsOf code old → AllPartsOf code new
 fill_parts code old new u fills all v z at i p is = let x = left_node old new u fills v z at in by_unit x.0 x.1 x.2
   where
-    by_unit : (x : Node Branch) → node_at old v ≡ Some x → (z ≡ x) ⊎ ((v ≡ u) × (z ≡ filled_node old.block fills.filled.memory x)) → (p.branch.expr.0 < length code.nodes) × (p.branch.env.sound_rate ≡ z.timing.rate)
-    by_unit x there (inl same) =
-        let was = all v x there i p (ap (λ (y : Node Branch). slice_get y.waiting i) (sym same) ∙ is) in
-        (was.0, was.1 ∙ ap (λ (y : Node Branch). y.timing.rate) (sym same))
+    by_unit : (x : Node Branch) → node_at old v ≡ Some x → (z ≡ x) ⊎ ((v ≡ u) × (z ≡ filled_node old.block fills.filled.memory x)) → (p.branch.expr.0 < length code.nodes) × (p.branch.env.sound_rate ≡ z.timing.rate) × AreKept 0 p.branch.names (length p.captured) × (0 < length z.inputs)
+    by_unit x there (inl same) = subst (λ (y : Node Branch). HasPartsOf code y) (sym same) (all v x there) i p is
     by_unit x there (inr later) =
         let was = all v x there i p (filled_waiting old.block fills.filled.memory x i p (ap (λ (y : Node Branch). slice_get y.waiting i) (sym later.1) ∙ is)) in
-        (was.0, was.1 ∙ ap (λ (y : Node Branch). y.timing.rate) (sym later.1))
+        (was.0, was.1 ∙ ap (λ (y : Node Branch). y.timing.rate) (sym later.1), was.2, omega (arith, was.3, ap (λ (y : Node Branch). length y.inputs) later.1 ∙ filled_inputs old.block fills.filled.memory x))
 
 -- ---- what a fill leaves
 

@@ -1,7 +1,7 @@
 -- Evaluation leaves no part waiting but expressions of the program.
 use Rattle.std.proofs.Common.{◌≡◌, inl, inr, ℕ, zero, suc, List, [], ◌∷◌, ◌++◌, map, Option, None, Some, refl, sym, ap, subst, ◌∙◌, arith, length, replicate, ◌<◌, take}
-use Rattle.std.specs.Prelude.{zip, slice_get, if◌then◌else◌, Bool, true, false, pos}
-use Rattle.std.proofs.lemmas.List.{length-replicate}
+use Rattle.std.specs.Prelude.{zip, get_or, slice_get, if◌then◌else◌, Bool, true, false, pos}
+use Rattle.std.proofs.lemmas.List.{length-replicate, length-map}
 use Rattle.ny_num.specs.Grid.{index_at}
 use Rattle.ny_num.specs.declared.rate.Rate.{Rate}
 use Rattle.ny_num.specs.declared.timing.Timing.{Timing}
@@ -25,7 +25,7 @@ use Rattle.ny_check.specs.Behaviours.{is_one, cue_timing}
 use Rattle.ny_check.specs.Families.{changed_env}
 use Rattle.ny_heap.specs.declared.sound.Sound.{Sound}
 use Rattle.ny_heap.specs.Heap.{Waiting, HeapState}
-use Rattle.ny_heap.specs.Steps.{waiting_of}
+use Rattle.ny_heap.specs.Steps.{captured_of, reader_of, waiting_of}
 use Rattle.ny_hands.proofs.OptionLemmas.{same_at}
 use Rattle.std.specs.List.{range_with_len}
 use Rattle.ny_num.specs.Sound.{spanning, timing_of}
@@ -40,8 +40,8 @@ use Rattle.ny_trace.proofs.EvaluationLemmas.{below_all, below_binds}
 use Rattle.ny_hands.specs.declared.branch.Branch.{Branch}
 use Rattle.ny_hands.specs.Frames.{Names, sounds_among}
 use Rattle.ny_trace.specs.Evaluates.{Trace, Part, parts_of, counted_parts, NameTurn, ValueTurn, BindsTurn, ValuesTurn, JoinTurn, PartsTurn, SimTurn, NextTurn, NextsTurn, counted_names, timed_in, times_in, sounds_of_values, WaitsTurn, SeqTurn, NodeTurn, Evaluates}
-use Rattle.ny_walk.specs.Parts.{AllPartsOf, IsMakingParts}
-use Rattle.ny_walk.proofs.PartsStepLemmas.{parts_released, parts_shared, parts_made, parts_plain, parts_brought, parts_brings, parts_placed, parts_silent, parts_waits, parts_louder}
+use Rattle.ny_walk.specs.Parts.{AreKept, AllPartsOf, IsMakingParts}
+use Rattle.ny_walk.proofs.PartsStepLemmas.{kept_in_order, parts_released, parts_shared, parts_made, parts_plain, parts_brought, parts_brings, parts_placed, parts_silent, parts_waits, parts_louder}
 
 mix_timing-rate : (r : Rate) (ts : List Timing) → (mix_timing r ts).rate ≡ r
 unfolding mix_timing spanning
@@ -122,14 +122,17 @@ module _ (code : Code) (D : Trace) (law : IsMakingParts code D) where
   sim_parts ps env old new s are step all =
       parts_plain code step.mixed.mid new _ _ step.mixed.brought step.mixed.brought s step.mixed.made (parts_brings code step.mid step.mixed.mid env.sound_rate step.parts step.mixed.brought step.mixed.brings (each_parts env ps old step.mid step.parts are step.each all))
 
-  -- the branches that wait are of the program, in the environment of the whole
-  waits_inside : (env : Env) (ps : List Part) (old new : HeapState Branch) (qs : List (Branch × List Sound)) → Inside ps → WaitsTurn code env ps old new qs → (i : ℕ) (p : Waiting Branch) → slice_get (map waiting_of qs) i ≡ Some p → (p.branch.expr.0 < length code.nodes) × (p.branch.env.sound_rate ≡ env.sound_rate)
+  -- the branches that wait are of the program, in the environment of the whole, and their names have the sounds that they kept
+  waits_inside : (env : Env) (ps : List Part) (old new : HeapState Branch) (qs : List (Branch × List Sound)) → Inside ps → WaitsTurn code env ps old new qs → (i : ℕ) (p : Waiting Branch) → slice_get (map waiting_of qs) i ≡ Some p → (p.branch.expr.0 < length code.nodes) × (p.branch.env.sound_rate ≡ env.sound_rate) × AreKept 0 p.branch.names (length p.captured)
   waits_inside env [] old new [] are step i p e = cc
   waits_inside env [] old new (q ∷ qs) are step i p e = absurd step
   waits_inside env (w ∷ ws) old new [] are step i p e = absurd step
   waits_inside env (w ∷ ws) old new (q ∷ qs) are step zero p e =
-      let is : waiting_of q ≡ p = same_at (Some p) (waiting_of q) p (sym e) refl in
-      (subst (λ (x : Waiting Branch). x.branch.expr.0 < length code.nodes) is (subst (λ (k : ExprId). k.0 < length code.nodes) (sym step.1) are.0), sym (ap (λ (x : Waiting Branch). x.branch.env.sound_rate) is) ∙ ap (λ (v : Env). v.sound_rate) step.2)
+      let is : waiting_of q ≡ p = same_at (Some p) (waiting_of q) p (sym e) refl in (
+        subst (λ (x : Waiting Branch). x.branch.expr.0 < length code.nodes) is (subst (λ (k : ExprId). k.0 < length code.nodes) (sym step.1) are.0),
+        sym (ap (λ (x : Waiting Branch). x.branch.env.sound_rate) is) ∙ ap (λ (v : Env). v.sound_rate) step.2,
+        subst (λ (x : Waiting Branch). AreKept 0 x.branch.names (length x.captured)) is (kept_in_order w.1 (get_or code.free w.0.0 []) 0 old step.0 q.0.names q.1 (length (map captured_of q.1)) step.3 (omega (arith, length-map q.1 captured_of))),
+      )
   waits_inside env (w ∷ ws) old new (q ∷ qs) are step (suc i) p e = waits_inside env ws step.0 new qs are.1 step.4 i p e
 
   -- whatever timings the names have
@@ -171,8 +174,8 @@ module _ (code : Code) (D : Trace) (law : IsMakingParts code D) where
           (step.when (bound_from names) (bound_timed names) ∙ (ap timing_of (mean (bound_from names)) ∙ timing_of-mix env.sound_rate (parts_in_turn env (heard (bound_from names)))))
           ∙ mix_timing-rate env.sound_rate (map timing_of (parts_in_turn env (heard (bound_from names))))
 
-      made_inside : (i : ℕ) (p : Waiting Branch) → slice_get (map waiting_of step.waiting) i ≡ Some p → (p.branch.expr.0 < length code.nodes) × (p.branch.env.sound_rate ≡ step.t.rate)
-      made_inside i p at = let is = waits_inside env step.later step.three step.four step.waiting (inside_last step.now step.later these.1) step.waits i p at in (is.0, is.1 ∙ sym rate)
+      made_inside : (i : ℕ) (p : Waiting Branch) → slice_get (map waiting_of step.waiting) i ≡ Some p → (p.branch.expr.0 < length code.nodes) × (p.branch.env.sound_rate ≡ step.t.rate) × AreKept 0 p.branch.names (length p.captured) × (0 < length (map reader_of (step.brought ∷ step.others)))
+      made_inside i p at = let is = waits_inside env step.later step.three step.four step.waiting (inside_last step.now step.later these.1) step.waits i p at in (is.0, is.1 ∙ sym rate, is.2, omega (arith, length-map (step.brought ∷ step.others) reader_of))
 
   -- ---- each node
 

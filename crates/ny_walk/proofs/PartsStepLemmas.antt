@@ -1,5 +1,5 @@
 -- What calls of a heap do to the parts that wait.
-use Rattle.std.proofs.Common.{◌≡◌, inl, inr, ℕ, suc, List, [], ◌∷◌, Option, None, Some, sym, ap, subst, ◌∙◌}
+use Rattle.std.proofs.Common.{◌≡◌, inl, inr, ℕ, suc, ◌+◌, length, List, [], ◌∷◌, Option, None, Some, refl, sym, ap, subst, ◌∙◌, arith}
 use Rattle.std.specs.Prelude.{get_or, slice_get, Bool, true, false, ℤ}
 use Rattle.std.proofs.lemmas.Bool.{cases_eq}
 use Rattle.ny_num.specs.declared.rate.Rate.{Rate}
@@ -21,10 +21,23 @@ use Rattle.ny_hands.specs.declared.branch.Branch.{Branch}
 use Rattle.ny_hands.specs.Calls.{Shares, Places, MakesUnit, ReleasesAll, Brings, Stay, Change, BringsEach, IsSilent}
 use Rattle.ny_hands.specs.Frames.{Names}
 use Rattle.ny_trace.specs.Evaluates.{Part, LouderTurn, KeepTurn, KeepsTurn, WaitsTurn}
-use Rattle.ny_walk.specs.Parts.{HasPartsOf, AllPartsOf}
+use Rattle.ny_walk.specs.Parts.{AreKept, HasPartsOf, AllPartsOf}
 use Rattle.ny_hands.proofs.MarkLemmas.{spent_like}
 use Rattle.ny_trace.proofs.HeightLemmas.{ComesFrom, from_trimmed}
 use Rattle.ny_trace.proofs.RisingSeqLemmas.{from_shared}
+
+-- a branch keeps the sounds of its names, each once and in order
+pub kept_in_order : (names : Names) (xs : List NameId) (k : ℕ) (old new : HeapState Branch) (kept : List (NameId × Value ℕ)) (ss : List Sound) (n : ℕ) → KeepsTurn names xs k old new kept ss → k + length ss ≡ n → AreKept k kept n
+kept_in_order names [] k old new kept ss n step e =
+    subst (λ (bs : List (NameId × Value ℕ)). AreKept k bs n) (sym step.0) (omega (arith, e, ap (λ (qs : List Sound). length qs) step.1))
+kept_in_order names (x ∷ xs) k old new kept ss n step e = by_found (λ k from kept ss step e. kept_in_order names xs k from new kept ss n step e) (last_of (same_name x) names) step
+  where
+    by_found : ((k : ℕ) (from : HeapState Branch) (kept : List (NameId × Value ℕ)) (ss : List Sound) → KeepsTurn names xs k from new kept ss → k + length ss ≡ n → AreKept k kept n) → (o : Option (Value Sound)) → KeepTurn (KeepsTurn names xs) o x k old new kept ss → AreKept k kept n
+    by_found more None step = more k old kept ss step e
+    by_found more (Some (Number v)) step = subst (λ (bs : List (NameId × Value ℕ)). AreKept k bs n) (sym step.2) (more k old step.0 ss step.1 e)
+    by_found more (Some (SoundOf a)) step =
+        subst (λ (bs : List (NameId × Value ℕ)). AreKept k bs n) (sym step.6)
+        (refl, more (suc k) step.3 step.0 step.2 step.5 (omega (arith, e, ap (λ (qs : List Sound). length qs) step.7)))
 
 module _ (code : Code) where
   -- ---- steps

@@ -1,12 +1,12 @@
 -- A part that is revealed leaves alone what stands higher than its unit.
-use Rattle.std.proofs.Common.{◌≡◌, ◌≢◌, ◌⊎◌, inl, inr, ℕ, suc, ◌+◌, ◌*◌, ◌<◌, ◌≤◌, Bool, true, false, cond, nat_eq, List, [], ◌∷◌, length, drop, slice_get, Option, None, Some, refl, sym, ap, subst, ◌∙◌, arith}
+use Rattle.std.proofs.Common.{◌≡◌, ◌≢◌, ◌⊎◌, inl, inr, ℕ, suc, ◌+◌, ◌*◌, ◌<◌, ◌≤◌, Bool, true, false, cond, nat_eq, List, [], ◌∷◌, ◌++◌, length, drop, slice_get, Option, None, Some, refl, sym, ap, subst, ◌∙◌, arith}
 use Rattle.std.proofs.lemmas.Bool.{cases_eq, eq-eqb, ne_eqb, ltb-false}
 use Rattle.std.specs.Option.{option_map_or}
 use Rattle.ny_num.specs.Grid.{index_at}
 use Rattle.ny_check.specs.Code.{Code}
-use Rattle.ny_heap.specs.Heap.{Waiting, Node, HeapState, node_at}
+use Rattle.ny_heap.specs.Heap.{Reader, Waiting, Node, HeapState, node_at}
 use Rattle.ny_heap.specs.Reach.{HeapLaws}
-use Rattle.ny_heap.specs.Steps.{IsSettledUnit, changed, waiting_of}
+use Rattle.ny_heap.specs.Steps.{IsSettledUnit, changed, reader_of, waiting_of}
 use Rattle.ny_heap.specs.Revealing.{needs_part, due_of, with_promise, with_sounds}
 use Rattle.ny_hands.specs.declared.branch.Branch.{Branch}
 use Rattle.ny_hands.specs.Frames.{part_is}
@@ -23,7 +23,7 @@ use Rattle.ny_trace.proofs.RevealHandLemmas.{promised, promised_here, promised_e
 use Rattle.ny_trace.proofs.RevealLemmas.{reveal_later}
 use Rattle.ny_trace.proofs.RisingRevealLemmas.{revealed_stands}
 use Rattle.ny_trace.proofs.SettlingRevealLemmas.{revealed_settled}
-use Rattle.ny_walk.specs.Parts.{AllPartsOf, IsMakingParts}
+use Rattle.ny_walk.specs.Parts.{HasPartsOf, AllPartsOf, IsMakingParts}
 use Rattle.ny_walk.specs.Fits.{IsTold, IsFitting}
 use Rattle.ny_walk.proofs.PartsStepLemmas.{parts_like, parts_released}
 use Rattle.ny_walk.proofs.PartsLemmas.{next_parts}
@@ -88,7 +88,7 @@ module _ (code : Code) (D : Trace) (law : IsLawful code D) (tall : ℕ → ℕ) 
     | inl same ↦
         let now : with_promise turn.part.takes.hands.unit ≡ y = same_at (node_at (promised old u) u) (with_promise turn.part.takes.hands.unit) y (promised_here old u turn.part.takes.hands.unit turn.part.takes.hands.was laws) (ap (node_at (promised old u)) (sym same) ∙ at) in
         let was = all u turn.part.takes.hands.unit turn.part.takes.hands.was (suc i) p (sym (later_of turn.part.takes.hands.unit.waiting (waiting_of (turn.part.branch, turn.part.captured)) turn.part.takes.hands.rest turn.part.takes.hands.waits i) ∙ (ap (λ (z : Node Branch). slice_get z.waiting i) now ∙ is)) in
-        (was.0, was.1 ∙ ap (λ (z : Node Branch). z.timing.rate) now)
+        (was.0, was.1 ∙ ap (λ (z : Node Branch). z.timing.rate) now, was.2, subst (λ (z : Node Branch). 0 < length z.inputs) now was.3)
     | inr other ↦ all v y (sym (promised_else old u turn.part.takes.hands.unit turn.part.takes.hands.was laws v other) ∙ at) i p is
   ]
     where
@@ -111,12 +111,15 @@ module _ (code : Code) (D : Trace) (law : IsLawful code D) (tall : ℕ → ℕ) 
     | inl same ↦
         let now : revealed_node shows.part shows.unit ≡ y = same_at (node_at new u) (revealed_node shows.part shows.unit) y shows.after (ap (node_at new) (sym same) ∙ at) in
         let was = promised_parts all u (with_promise shows.unit) (promised_here old u shows.unit shows.was laws) i p (ap (λ (z : Node Branch). slice_get z.waiting i) now ∙ is) in
-        (was.0, was.1 ∙ ap (λ (z : Node Branch). z.timing.rate) now)
+        (was.0, was.1 ∙ ap (λ (z : Node Branch). z.timing.rate) now, was.2, subst (λ (z : Node Branch). 0 < length z.inputs) now (one_more shows.unit.inputs (reader_of shows.part)))
     | inr other ↦
         let m = (spent_like turn.mid (turn.sound ∷ [])).from v y (sym (new_else code D law old turn.mid u turn.sound turn.part laws inside new turn.attaches v other) ∙ at) in
-        let was = mid_parts all v m.0 m.1 i p (sym (ap (λ (z : Node Branch). slice_get z.waiting i) m.2) ∙ is) in
-        (was.0, was.1 ∙ sym (ap (λ (z : Node Branch). z.timing.rate) m.2))
+        subst (λ (z : Node Branch). HasPartsOf code z) (sym m.2) (mid_parts all v m.0 m.1) i p is
   ]
+    where
+      one_more : (os : List (Option Reader)) (o : Option Reader) → 0 < length (os ++ o ∷ [])
+      one_more [] o = omega arith
+      one_more (a ∷ os) o = omega arith
 
   pub turn_reveals : Revealed code tall old new u
   turn_reveals = record {
