@@ -1,5 +1,5 @@
 -- Blocks and calls: names that are bound while a body is evaluated.
-use Rattle.std.proofs.Common.{◌≡◌, ℕ, zero, suc, ◌+◌, ◌<◌, ◌≤◌, min, List, [], ◌∷◌, ◌++◌, length, take, drop, get_or, true, Result, Ok, Err, IfOk, OnErr, refl, sym, ap, subst, ◌∙◌, arith}
+use Rattle.std.proofs.Common.{◌≡◌, ℕ, zero, suc, ◌+◌, ◌<◌, ◌≤◌, min, List, [], ◌∷◌, ◌++◌, length, take, drop, get_or, Result, Ok, Err, IfOk, OnErr, refl, sym, ap, subst, ◌∙◌, arith}
 use Rattle.std.specs.Prelude.{zip}
 use Rattle.std.proofs.lemmas.List.{append-nil, append_assoc, take_more}
 use Rattle.ny_warp.specs.declared.env.Env.{Env}
@@ -19,8 +19,8 @@ use Rattle.ny_hands.proofs.HandLemmas.{hand_none, hand_more, hand_released_all}
 use Rattle.ny_hands.proofs.HeldLemmas.{names_later, held_append, held_among}
 use Rattle.ny_hands.proofs.SpendLemmas.{all_in_hand, all_given_up}
 use Rattle.ny_trace.specs.Evaluates.{Trace, ValueTurn, BindsTurn, BlockTurn, ValuesTurn, CallTurn, sounds_of_values, Evaluates}
+use Rattle.ny_trace.specs.Laws.{KeepsFree}
 use Rattle.ny_trace.proofs.StepLemmas.{lifted, value_lifted}
-use Rattle.ny_eval.specs.Built.{built, AreBuilt}
 use Rattle.ny_eval.proofs.EvalLemmas.{sound_hand}
 use Rattle.std.specs.declared.alloc.AllocError.{AllocError}
 use Rattle.ny_eval.specs.Framed.{FrameState, names_in, HasGrown, AreBound, ArePassed}
@@ -166,11 +166,6 @@ below_at n [] i other within below = absurd (omega (arith, within))
 below_at n (e ∷ es) zero other within below = below.0
 below_at n (e ∷ es) (suc i) other within below = below_at n es i other (omega (arith, within)) below.1
 
-pub built_part_at : (code : Code) (es : List ExprId) (i : ℕ) (other : ExprId) → i < length es → AreBuilt code es → built code (get_or es i other).0 ≡ true
-built_part_at code [] i other within are = absurd (omega (arith, within))
-built_part_at code (e ∷ es) zero other within are = are.0
-built_part_at code (e ∷ es) (suc i) other within are = built_part_at code es i other (omega (arith, within)) are.1
-
 -- ---- one more argument
 
 values_then : (D : Trace) (code : Code) (env : Env) (names : Names) (es : List ExprId) (old mid new : HeapState Branch) (vs : List (Value Sound)) (e : ExprId) (v : Value Sound) → ValuesTurn D code env names es old mid vs → ValueTurn D code env names e mid new v → ValuesTurn D code env names (es ++ e ∷ []) old new (vs ++ v ∷ [])
@@ -258,9 +253,9 @@ if_ok (Ok x) P Q f p = f x p
 if_ok (Err e) P Q f p = tt
 
 -- what came into hand, or nothing
-pub body_hand : (code : Code) → IsOrdered code → (n e : ℕ) (env : Env) (names : Names) (mid end : HeapState Branch) (r : Result Sound AllocError) → e < length code.nodes → built code e ≡ true → HeapLaws mid → AllHeld mid names → IfOk r (λ s. Evaluates code n e env names mid end s) → OnErr r (Hand mid end []) → (ss : List Sound) × Hand mid end ss
-body_hand code ordered n e env names mid end (Ok s) inside builds laws held evaluates refused = (s ∷ [], sound_hand code ordered n e env names mid end s inside builds laws held evaluates)
-body_hand code ordered n e env names mid end (Err fault) inside builds laws held evaluates refused = ([], refused)
+pub body_hand : (code : Code) → IsOrdered code → KeepsFree code → (n e : ℕ) (env : Env) (names : Names) (mid end : HeapState Branch) (r : Result Sound AllocError) → e < length code.nodes → HeapLaws mid → AllHeld mid names → IfOk r (λ s. Evaluates code n e env names mid end s) → OnErr r (Hand mid end []) → (ss : List Sound) × Hand mid end ss
+body_hand code ordered free n e env names mid end (Ok s) inside laws held evaluates refused = (s ∷ [], sound_hand code ordered free n e env names mid end s inside laws held evaluates)
+body_hand code ordered free n e env names mid end (Err fault) inside laws held evaluates refused = ([], refused)
 
 -- the frame is left at the n names that were bound before
 module _ (f g k : FrameState) (old mid end : HeapState Branch) (n : ℕ) (laws : HeapLaws old) (p : HasGrown f g old mid) (same : k ≡ g) (count : n ≡ length f.bound) where

@@ -7,20 +7,13 @@ use Rattle.std.proofs.lemmas.Bool.{ltb-true, ltb-false}
 use Rattle.std.proofs.lemmas.List.{get_or_past, drop_more}
 use Rattle.std.proofs.Math.ListN.{drop_of_length-le}
 use Rattle.std.proofs.lemmas.List.FromFn.{get_or-map-range_with_len, length-map-range_with_len, map-range_with_len_more}
-use Rattle.ny_kernels.specs.declared.operation.Op.{Op}
-use Rattle.ny_resolve.specs.declared.builtin.Order.{Order}
-use Rattle.ny_resolve.specs.declared.builtin.Order.TheVariants as order
 use Rattle.ny_resolve.specs.declared.term.NameId.{NameId}
-use Rattle.ny_check.specs.Code.{Code, node_at, function_at}
+use Rattle.ny_check.specs.Code.{Code, node_at}
 use Rattle.ny_check.specs.Recursion.{below}
 use Rattle.ny_check.specs.declared.node.Node.{Node}
-use Rattle.ny_check.specs.declared.node.Node.TheVariants as node
-use Rattle.ny_check.specs.declared.node.Change.{Change}
-use Rattle.ny_check.specs.declared.node.Effect.{Effect}
 use Rattle.ny_check.specs.declared.node.ExprId.{ExprId}
-use Rattle.ny_check.specs.declared.node.FunctionId.{FunctionId}
 use Rattle.ny_check.proofs.Smaller.{by_smaller-is}
-use Rattle.ny_eval.specs.Built.{all_built, binds_built, AreBuilt, AreBindsBuilt, change_built, is_together, built_node, built, is_built}
+use Rattle.ny_eval.specs.Built.{all_built, binds_built, built_node, built, is_built}
 
 -- ---- a table
 
@@ -123,77 +116,10 @@ part_built n m f e = by_test (nat_lt m n) refl e
     by_test true low is = (ltb-true m n low, is)
     by_test false low is = not_built is
 
--- the parts of a call
-pub parts_built : (code : Code) (n : ℕ) (es : List ExprId) (more : Bool) → all_built es (below n false (built code)) more ≡ true → AreBuilt code es
-parts_built code n [] more e = tt
-parts_built code n (x ∷ es) more e =
-    let both = both_true (below n false (built code) x.0) (all_built es (below n false (built code)) more) e in
-    ((part_built n x.0 (built code) both.0).1, parts_built code n es more both.1)
-
--- and of a block
 pub binds_more_true : (bs : List (NameId × ExprId)) (known : ℕ → Bool) (more : Bool) → binds_built bs known more ≡ true → more ≡ true
 binds_more_true [] known more e = e
 binds_more_true (b ∷ bs) known more e = binds_more_true bs known more (both_true (known b.1.0) (binds_built bs known more) e).1
 
-pub parts_bound_built : (code : Code) (n : ℕ) (bs : List (NameId × ExprId)) (more : Bool) → binds_built bs (below n false (built code)) more ≡ true → AreBindsBuilt code bs
-parts_bound_built code n [] more e = tt
-parts_bound_built code n (b ∷ bs) more e =
-    let both = both_true (below n false (built code) b.1.0) (binds_built bs (below n false (built code)) more) e in
-    ((part_built n b.1.0 (built code) both.0).1, parts_bound_built code n bs more both.1)
-
-pub together_is : (o : Order) → is_together o ≡ true → o ≡ order.Together
-together_is order.Together is = refl
-together_is order.InTurn is = not_built is
-
-module _ (code : Code) (e : ℕ) where
-  pub built_at : (at : Node) → node_at code e ≡ at → built code e ≡ true → built_node code at (below e false (built code)) ≡ true
-  unfolding built
-  built_at at is builds = sym (by_smaller-is false (λ n rec. built_node code (node_at code n) rec) e ∙ ap (λ n. built_node code n (below e false (built code))) is) ∙ builds
-
-  module _ (here : Node) (found : here ≡ node_at code e) (builds : built code e ≡ true) where
-    pub pair_parts : (op : Op) (a b : ExprId) → here ≡ node.Pair op a b → (built code a.0 ≡ true) × (built code b.0 ≡ true)
-    pair_parts op a b is =
-        let both = both_true (below e false (built code) a.0) (below e false (built code) b.0) (built_at (node.Pair op a b) (sym found ∙ is) builds) in
-        ((part_built e a.0 (built code) both.0).1, (part_built e b.0 (built code) both.1).1)
-
-    pub sign_part : (a : ExprId) → here ≡ node.Neg a → built code a.0 ≡ true
-    sign_part a is = (part_built e a.0 (built code) (built_at (node.Neg a) (sym found ∙ is) builds)).1
-
-    pub effect_part : (w : Effect) (a : ExprId) (es : List ExprId) → here ≡ node.Effect w a es → built code a.0 ≡ true
-    effect_part w a es is = (part_built e a.0 (built code) (more_true es (below e false (built code)) (below e false (built code) a.0) (built_at (node.Effect w a es) (sym found ∙ is) builds))).1
-
-    pub call_parts : (f : FunctionId) (es : List ExprId) → here ≡ node.Call f es → AreBuilt code es × (built code (function_at code f.0).body.0 ≡ true)
-    call_parts f es is =
-        let all = built_at (node.Call f es) (sym found ∙ is) builds in
-        (parts_built code e es _ all, (part_built e (function_at code f.0).body.0 (built code) (more_true es (below e false (built code)) (below e false (built code) (function_at code f.0).body.0) all)).1)
-
-    pub block_parts : (bs : List (NameId × ExprId)) (a : ExprId) → here ≡ node.Block bs a → AreBindsBuilt code bs × (built code a.0 ≡ true)
-    block_parts bs a is =
-        let all = built_at (node.Block bs a) (sym found ∙ is) builds in
-        (parts_bound_built code e bs _ all, (part_built e a.0 (built code) (binds_more_true bs (below e false (built code)) (below e false (built code) a.0) all)).1)
-
-    pub choice_part : (c a b : ExprId) (t : Bool) → here ≡ node.If c a b → built code (if t then a.0 else b.0) ≡ true
-    choice_part c a b t is = by_choice t
-      where
-        parts : (below e false (built code) c.0 ≡ true) × ((below e false (built code) a.0 && below e false (built code) b.0) ≡ true)
-        parts = both_true (below e false (built code) c.0) (below e false (built code) a.0 && below e false (built code) b.0) (built_at (node.If c a b) (sym found ∙ is) builds)
-
-        by_choice : (t : Bool) → built code (if t then a.0 else b.0) ≡ true
-        by_choice true = (part_built e a.0 (built code) (both_true (below e false (built code) a.0) (below e false (built code) b.0) parts.1).0).1
-        by_choice false = (part_built e b.0 (built code) (both_true (below e false (built code) a.0) (below e false (built code) b.0) parts.1).1).1
-
-    pub change_part : (c : Change) (a : ExprId) → here ≡ node.Change c a → built code a.0 ≡ true
-    change_part c a is = (part_built e a.0 (built code) (both_true (change_built c (below e false (built code))) (below e false (built code) a.0) (built_at (node.Change c a) (sym found ∙ is) builds)).1).1
-
-    pub cue_part : (a : ExprId) → here ≡ node.Cue a → built code a.0 ≡ true
-    cue_part a is = (part_built e a.0 (built code) (built_at (node.Cue a) (sym found ∙ is) builds)).1
-
-    pub mix_parts : (o : Order) (es : List ExprId) → here ≡ node.Mix o es → (o ≡ order.Together) × AreBuilt code es
-    mix_parts o es is =
-        let all = built_at (node.Mix o es) (sym found ∙ is) builds in
-        (together_is o (more_true es (below e false (built code)) (is_together o) all), parts_built code e es _ all)
-
-    pub repeat_part : (o : Order) (x : NameId) (k : ℕ) (a : ExprId) → here ≡ node.Repeat o x k a → (o ≡ order.Together) × (built code a.0 ≡ true)
-    repeat_part o x k a is =
-        let both = both_true (is_together o) (below e false (built code) a.0) (built_at (node.Repeat o x k a) (sym found ∙ is) builds) in
-        (together_is o both.0, (part_built e a.0 (built code) both.1).1)
+pub built_at : (code : Code) (e : ℕ) (at : Node) → node_at code e ≡ at → built code e ≡ true → built_node code at (below e false (built code)) ≡ true
+unfolding built
+built_at code e at is builds = sym (by_smaller-is false (λ n rec. built_node code (node_at code n) rec) e ∙ ap (λ n. built_node code n (below e false (built code))) is) ∙ builds

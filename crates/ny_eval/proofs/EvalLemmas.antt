@@ -5,7 +5,6 @@ use Rattle.ny_kernels.specs.declared.operation.Op.{Op}
 use Rattle.ny_warp.specs.declared.env.Env.{Env}
 use Rattle.ny_scope.specs.Scopes.{last_of}
 use Rattle.ny_resolve.specs.declared.builtin.Order.{Order}
-use Rattle.ny_resolve.specs.declared.builtin.Order.TheVariants as order
 use Rattle.ny_resolve.specs.declared.term.NameId.{NameId}
 use Rattle.ny_resolve.specs.Keys.{same_name}
 use Rattle.ny_check.specs.declared.node.Node.{Node}
@@ -22,7 +21,6 @@ use Rattle.ny_check.specs.declared.value.Value.TheVariants.{Number, Sound as Sou
 use Rattle.ny_check.specs.Code.{Code, node_at, function_at, AllBelow, BindsBelow, IsBelow, IsOrdered}
 use Rattle.ny_check.specs.Values.{scalars_of, number_of, test_of}
 use Rattle.ny_check.specs.Families.{changed_env}
-use Rattle.ny_check.specs.Recursion.{below}
 use Rattle.ny_heap.specs.declared.sound.Sound.{Sound}
 use Rattle.ny_heap.specs.Heap.{HeapState}
 use Rattle.ny_heap.specs.Reach.{HeapLaws}
@@ -33,23 +31,22 @@ use Rattle.ny_hands.specs.Hands.{Hand}
 use Rattle.ny_hands.proofs.HandLemmas.{hand_none, hand_more}
 use Rattle.ny_hands.proofs.HeldLemmas.{held_named, names_later}
 use Rattle.ny_eval.specs.Framed.{FrameState, names_in}
-use Rattle.ny_trace.specs.Evaluates.{NameTurn, NodeTurn, IsNoNumber, ValueTurn, JoinTurn, OperationTurn, SignTurn, BlockTurn, CallTurn, LeafTurn, EffectTurn, CueTurn, SimTurn, MixTurn, Part, parts_of, counted_parts, Evaluates, numbers_in, sounds_of_values}
+use Rattle.ny_trace.specs.Evaluates.{NameTurn, NodeTurn, IsNoNumber, ValueTurn, JoinTurn, OperationTurn, SignTurn, BlockTurn, CallTurn, LeafTurn, EffectTurn, CueTurn, MixTurn, parts_of, counted_parts, Evaluates, numbers_in, sounds_of_values}
+use Rattle.ny_trace.specs.Laws.{KeepsFree}
+use Rattle.ny_trace.proofs.EvaluationLemmas.{evaluates_lawful}
 use Rattle.ny_trace.proofs.StepLemmas.{lifted, value_lifted, step_at}
-use Rattle.ny_eval.specs.Built.{built_node, built}
 use Rattle.ny_eval.specs.Values.{number_in}
-use Rattle.ny_eval.proofs.BuiltLemmas.{not_built, built_at}
-use Rattle.ny_eval.proofs.PlayedLemmas.{played_lawful}
 
 -- ---- what is in hand
 
--- of an expression that can be played
-pub sound_hand : (code : Code) → IsOrdered code → (n e : ℕ) (env : Env) (names : Names) (old new : HeapState Branch) (s : Sound) → e < length code.nodes → built code e ≡ true → HeapLaws old → AllHeld old names → Evaluates code n e env names old new s → Hand old new (s ∷ [])
-sound_hand code ordered n e env names old new s inside builds laws held t = (played_lawful code ordered n e env names old new s (builds, t) inside laws (held_named old names held)).hand
+-- of an expression
+pub sound_hand : (code : Code) → IsOrdered code → KeepsFree code → (n e : ℕ) (env : Env) (names : Names) (old new : HeapState Branch) (s : Sound) → e < length code.nodes → HeapLaws old → AllHeld old names → Evaluates code n e env names old new s → Hand old new (s ∷ [])
+sound_hand code ordered free n e env names old new s inside laws held t = (evaluates_lawful code ordered free n e env names old new s t inside laws (held_named old names held)).hand
 
 -- of an operand
-pub value_hand : (code : Code) → IsOrdered code → (n : ℕ) (e : ExprId) (env : Env) (names : Names) (old new : HeapState Branch) (v : Value Sound) → e.0 < length code.nodes → built code e.0 ≡ true → HeapLaws old → AllHeld old names → ValueTurn (Evaluates code n) code env names e old new v → Hand old new (sounds_of_values (v ∷ []))
-value_hand code ordered n e env names old new (Number k) inside builds laws held step = subst (λ (h : HeapState Branch). Hand old h []) step.1 (hand_none old laws)
-value_hand code ordered n e env names old new (SoundOf s) inside builds laws held step = sound_hand code ordered n e.0 env names old new s inside builds laws held step.1
+pub value_hand : (code : Code) → IsOrdered code → KeepsFree code → (n : ℕ) (e : ExprId) (env : Env) (names : Names) (old new : HeapState Branch) (v : Value Sound) → e.0 < length code.nodes → HeapLaws old → AllHeld old names → ValueTurn (Evaluates code n) code env names e old new v → Hand old new (sounds_of_values (v ∷ []))
+value_hand code ordered free n e env names old new (Number k) inside laws held step = subst (λ (h : HeapState Branch). Hand old h []) step.1 (hand_none old laws)
+value_hand code ordered free n e env names old new (SoundOf s) inside laws held step = sound_hand code ordered free n e.0 env names old new s inside laws held step.1
 
 -- of two
 pub values_hand : (old mid new : HeapState Branch) (x y : Value Sound) → Hand old mid (sounds_of_values (x ∷ [])) → Hand mid new (sounds_of_values (y ∷ [])) → Hand old new (sounds_of_values (x ∷ y ∷ []))
@@ -132,6 +129,10 @@ module _ (code : Code) (e : ℕ) where
   pub mix_below : (o : Order) (es : List ExprId) (here : Node) → here ≡ node.Mix o es → IsBelow code.functions e here → AllBelow e es
   mix_below o es here is ordered = subst (λ n. IsBelow code.functions e n) is ordered
 
+  -- its parts stand in a slice
+  pub mix_is : (o : Order) (es slice : List ExprId) (here : Node) → here ≡ node.Mix o es → here ≡ node_at code e → slice ≡ es → node_at code e ≡ node.Mix o slice
+  mix_is o es slice here is found same = sym found ∙ (is ∙ ap (λ xs. node.Mix o xs) (sym same))
+
   pub repeat_below : (o : Order) (x : NameId) (k : ℕ) (a : ExprId) (here : Node) → here ≡ node.Repeat o x k a → IsBelow code.functions e here → a.0 < e
   repeat_below o x k a here is ordered = subst (λ n. IsBelow code.functions e n) is ordered
 
@@ -190,18 +191,14 @@ module _ (code : Code) (e : ℕ) (here : Node) (env : Env) (names : Names) (old 
   pub cue_arm : (a : ExprId) → here ≡ node.Cue a → ((n : ℕ) → a.0 < n → CueTurn (Evaluates code n) a env names old new s) → Evaluates code (e + 1) e env names old new s
   cue_arm a is turn = step_at code e here env names old new s found (node.Cue a) is (turn e (subst (λ n. IsBelow code.functions e n) is ordered))
 
-  -- parts together
-  as_mix : (o : Order) (ps : List Part) → o ≡ order.Together → SimTurn (Evaluates code e) ps env old new s → MixTurn (Evaluates code e) code e o ps env names old new s
-  as_mix o ps so turn = subst (λ (q : Order). MixTurn (Evaluates code e) code e q ps env names old new s) (sym so) turn
-
   -- its parts stand in a slice
-  pub mix_arm : (o : Order) (es slice : List ExprId) → here ≡ node.Mix o es → slice ≡ es → o ≡ order.Together → SimTurn (Evaluates code e) (parts_of names slice) env old new s → Evaluates code (e + 1) e env names old new s
-  mix_arm o es slice is same so turn =
+  pub mix_arm : (o : Order) (es slice : List ExprId) → here ≡ node.Mix o es → slice ≡ es → MixTurn (Evaluates code e) code e o (parts_of names slice) env names old new s → Evaluates code (e + 1) e env names old new s
+  mix_arm o es slice is same turn =
       step_at code e here env names old new s found (node.Mix o es) is
-      (as_mix o (parts_of names es) so (subst (λ xs. SimTurn (Evaluates code e) (parts_of names xs) env old new s) same turn))
+      (subst (λ xs. MixTurn (Evaluates code e) code e o (parts_of names xs) env names old new s) same turn)
 
-  pub repeat_arm : (o : Order) (x : NameId) (k : ℕ) (a : ExprId) → here ≡ node.Repeat o x k a → o ≡ order.Together → SimTurn (Evaluates code e) (counted_parts names x k a) env old new s → Evaluates code (e + 1) e env names old new s
-  repeat_arm o x k a is so turn = step_at code e here env names old new s found (node.Repeat o x k a) is (as_mix o (counted_parts names x k a) so turn)
+  pub repeat_arm : (o : Order) (x : NameId) (k : ℕ) (a : ExprId) → here ≡ node.Repeat o x k a → MixTurn (Evaluates code e) code e o (counted_parts names x k a) env names old new s → Evaluates code (e + 1) e env names old new s
+  repeat_arm o x k a is turn = step_at code e here env names old new s found (node.Repeat o x k a) is turn
 
   pub choice_arm : (c a b : ExprId) (t : Bool) (part : ℕ) → here ≡ node.If c a b → t ≡ test_of code c (scalars_of names) → part ≡ (if t then a.0 else b.0) → Evaluates code (part + 1) part env names old new s → Evaluates code (e + 1) e env names old new s
   choice_arm c a b t part is holds one turn =
@@ -217,29 +214,29 @@ module _ (code : Code) (e : ℕ) (here : Node) (env : Env) (names : Names) (old 
       (subst (λ (q : Env). Evaluates code e a.0 q names old new s) now
       (lifted code (a.0 + 1) e a.0 changed names old new s (omega (arith, under.1)) turn))
 
-  -- what else can be played is a number or a test
+  -- what else there is is a number, a test or a vector
   module _ (not_local : (x : NameId) → here ≡ node.Local x → ⊥) (not_call : (f : FunctionId) (es : List ExprId) → here ≡ node.Call f es → ⊥) (not_block : (bs : List (NameId × ExprId)) (a : ExprId) → here ≡ node.Block bs a → ⊥) (not_pair : (op : Op) (a b : ExprId) → here ≡ node.Pair op a b → ⊥) (not_neg : (a : ExprId) → here ≡ node.Neg a → ⊥) (not_leaf : (w : Generator) (es : List ExprId) → here ≡ node.Leaf w es → ⊥) (not_effect : (w : Effect) (part : ExprId) (es : List ExprId) → here ≡ node.Effect w part es → ⊥) (not_if : (c a b : ExprId) → here ≡ node.If c a b → ⊥) (not_cue : (a : ExprId) → here ≡ node.Cue a → ⊥) (not_mix : (o : Order) (es : List ExprId) → here ≡ node.Mix o es → ⊥) (not_repeat : (o : Order) (x : NameId) (k : ℕ) (a : ExprId) → here ≡ node.Repeat o x k a → ⊥) (not_change : (c : Change) (a : ExprId) → here ≡ node.Change c a → ⊥) (silent : IsSilent old new env.sound_rate s) where
-    silent_turn : (known : ℕ → Bool) (at : Node) → here ≡ at → built_node code at known ≡ true → NodeTurn (Evaluates code e) code e at env names old new s
-    silent_turn known (node.Number v) is builds = silent
-    silent_turn known (node.Local x) is builds = absurd (not_local x is)
-    silent_turn known (node.Global a) is builds = silent
-    silent_turn known (node.Call f es) is builds = absurd (not_call f es is)
-    silent_turn known (node.Block bs a) is builds = absurd (not_block bs a is)
-    silent_turn known (node.Pair op a b) is builds = absurd (not_pair op a b is)
-    silent_turn known (node.Div a v) is builds = silent
-    silent_turn known (node.Neg a) is builds = absurd (not_neg a is)
-    silent_turn known (node.Compare r a b) is builds = silent
-    silent_turn known (node.And a b) is builds = silent
-    silent_turn known (node.Or a b) is builds = silent
-    silent_turn known (node.Not a) is builds = silent
-    silent_turn known (node.If c a b) is builds = absurd (not_if c a b is)
-    silent_turn known (node.Leaf w es) is builds = absurd (not_leaf w es is)
-    silent_turn known (node.Effect w a es) is builds = absurd (not_effect w a es is)
-    silent_turn known (node.Cue a) is builds = absurd (not_cue a is)
-    silent_turn known (node.Mix o es) is builds = absurd (not_mix o es is)
-    silent_turn known (node.Repeat o x k a) is builds = absurd (not_repeat o x k a is)
-    silent_turn known (node.Change c a) is builds = absurd (not_change c a is)
-    silent_turn known (node.Vector es) is builds = not_built builds
+    silent_turn : (at : Node) → here ≡ at → NodeTurn (Evaluates code e) code e at env names old new s
+    silent_turn (node.Number v) is = silent
+    silent_turn (node.Local x) is = absurd (not_local x is)
+    silent_turn (node.Global a) is = silent
+    silent_turn (node.Call f es) is = absurd (not_call f es is)
+    silent_turn (node.Block bs a) is = absurd (not_block bs a is)
+    silent_turn (node.Pair op a b) is = absurd (not_pair op a b is)
+    silent_turn (node.Div a v) is = silent
+    silent_turn (node.Neg a) is = absurd (not_neg a is)
+    silent_turn (node.Compare r a b) is = silent
+    silent_turn (node.And a b) is = silent
+    silent_turn (node.Or a b) is = silent
+    silent_turn (node.Not a) is = silent
+    silent_turn (node.If c a b) is = absurd (not_if c a b is)
+    silent_turn (node.Leaf w es) is = absurd (not_leaf w es is)
+    silent_turn (node.Effect w a es) is = absurd (not_effect w a es is)
+    silent_turn (node.Cue a) is = absurd (not_cue a is)
+    silent_turn (node.Mix o es) is = absurd (not_mix o es is)
+    silent_turn (node.Repeat o x k a) is = absurd (not_repeat o x k a is)
+    silent_turn (node.Change c a) is = absurd (not_change c a is)
+    silent_turn (node.Vector es) is = silent
 
-    pub silent_arm : built code e ≡ true → Evaluates code (e + 1) e env names old new s
-    silent_arm builds = step_at code e here env names old new s found here refl (silent_turn (below e false (built code)) here refl (built_at code e here (sym found) builds))
+    pub silent_arm : Evaluates code (e + 1) e env names old new s
+    silent_arm = step_at code e here env names old new s found here refl (silent_turn here refl)

@@ -1,5 +1,5 @@
 -- The parts of a mix, one after another.
-use Rattle.std.proofs.Common.{◌≡◌, ℕ, ◌+◌, ◌*◌, ◌<◌, List, [], ◌∷◌, ◌++◌, length, map, drop, true, refl, sym, ap, subst, ◌∙◌, arith, pos}
+use Rattle.std.proofs.Common.{◌≡◌, ℕ, ◌+◌, ◌*◌, ◌<◌, List, [], ◌∷◌, ◌++◌, length, map, drop, refl, sym, ap, subst, ◌∙◌, arith, pos}
 use Rattle.std.specs.List.{range_with_len}
 use Rattle.std.proofs.lemmas.List.{append-nil, append_assoc, get_or-map, length-map}
 use Rattle.std.proofs.lemmas.List.FromFn.{map-range_with_len_more, fill_by_all}
@@ -20,13 +20,14 @@ use Rattle.ny_hands.proofs.HandLemmas.{hand_none, hand_more}
 use Rattle.ny_hands.proofs.HeldLemmas.{held_append}
 use Rattle.ny_hands.proofs.SpendLemmas.{all_in_hand, all_given_up}
 use Rattle.ny_trace.specs.Evaluates.{Trace, Part, parts_of, counted_names, PartsTurn, Evaluates, sounds_of_values}
+use Rattle.ny_trace.specs.Laws.{KeepsFree}
+use Rattle.ny_trace.proofs.EvaluationLemmas.{below_all}
 use Rattle.ny_trace.proofs.StepLemmas.{lifted}
-use Rattle.ny_eval.specs.Built.{built}
 use Rattle.ny_eval.specs.Framed.{FrameState, names_in, HasGrown}
 use Rattle.ny_eval.specs.declared.parts.Parts.{Parts}
 use Rattle.ny_eval.specs.declared.parts.Parts.TheVariants.{Listed, Counted}
-use Rattle.ny_eval.specs.Parts.{count_in, parts_in, part_at, AreBelow, CanBePlayed}
-use Rattle.ny_eval.proofs.BodyLemmas.{drop_first, below_at, built_part_at}
+use Rattle.ny_eval.specs.Parts.{count_in, parts_in, part_at, AreBelow}
+use Rattle.ny_eval.proofs.BodyLemmas.{drop_first, below_at}
 use Rattle.ny_eval.proofs.EvalLemmas.{sound_hand}
 
 -- ---- the part at a place
@@ -34,10 +35,6 @@ use Rattle.ny_eval.proofs.EvalLemmas.{sound_hand}
 pub part_below : (n : ℕ) (names : Names) (parts : Parts) (k : ℕ) → k < count_in parts → AreBelow n parts → (part_at names parts k).0.0 < n
 part_below n names (Listed es) k within below = below_at n es.now k (record { 0 = 0 }) within below
 part_below n names (Counted i count e) k within below = below
-
-pub part_built : (code : Code) (names : Names) (parts : Parts) (k : ℕ) → k < count_in parts → CanBePlayed code parts → built code (part_at names parts k).0.0 ≡ true
-part_built code names (Listed es) k within is = built_part_at code es.now k (record { 0 = 0 }) within is
-part_built code names (Counted i count e) k within is = is
 
 -- what its names stand for is held
 pub part_held : (h : HeapState Branch) (names : Names) (parts : Parts) (k : ℕ) → AllHeld h names → AllHeld h (part_at names parts k).1
@@ -57,9 +54,6 @@ parts_all names (Counted i count e) k is = ap (λ n. map (part_at names (Counted
 module _ (names : Names) (parts : Parts) (k : ℕ) (x : ExprId) (ns : Names) (is : part_at names parts k ≡ (x, ns)) (within : k < count_in parts) where
   pub expr_below : (n : ℕ) → AreBelow n parts → x.0 < n
   expr_below n below = subst (λ (q : Part). q.0.0 < n) is (part_below n names parts k within below)
-
-  pub expr_built : (code : Code) → CanBePlayed code parts → built code x.0 ≡ true
-  expr_built code can = subst (λ (q : Part). built code q.0.0 ≡ true) is (part_built code names parts k within can)
 
   pub part_turn : (code : Code) (n : ℕ) (env : Env) (old new : HeapState Branch) (s : Sound) → AreBelow n parts → Evaluates code (x.0 + 1) x.0 env ns old new s → Evaluates code n (part_at names parts k).0.0 env (part_at names parts k).1 old new s
   part_turn code n env old new s below turn =
@@ -113,14 +107,19 @@ parts_none code n env names parts h ss none laws = subst (λ xs. PartsSoFar code
 pub parts_refused : (code : Code) (n : ℕ) (env : Env) (names : Names) (parts : Parts) (k : ℕ) (old mid new : HeapState Branch) (ss : List Sound) → PartsSoFar code n env names parts k old mid ss → Hand mid new [] → Hand old new ss
 parts_refused code n env names parts k old mid new ss p refused = subst (λ xs. Hand old new xs) (append-nil ss) (hand_more old mid new ss [] p.hand refused)
 
-pub parts_more : (code : Code) → IsOrdered code → (n : ℕ) (env copy : Env) (f g : FrameState) (parts : Parts) (k : ℕ) (old mid new : HeapState Branch) (ss more : List Sound) (s : Sound) → n < length code.nodes → copy ≡ env → g ≡ f → k < count_in parts → AreBelow n parts → CanBePlayed code parts → AllHeld mid (names_in g) → PartsSoFar code n env (names_in f) parts k old mid ss → Evaluates code n (part_at (names_in g) parts k).0.0 copy (part_at (names_in g) parts k).1 mid new s → more ≡ ss ++ s ∷ [] → PartsSoFar code n env (names_in f) parts (k + 1) old new more
-parts_more code ordered n env copy f g parts k old mid new ss more s inside same still within below can held p turn list =
+pub parts_more : (code : Code) → IsOrdered code → KeepsFree code → (n : ℕ) (env copy : Env) (f g : FrameState) (parts : Parts) (k : ℕ) (old mid new : HeapState Branch) (ss more : List Sound) (s : Sound) → n < length code.nodes → copy ≡ env → g ≡ f → k < count_in parts → AreBelow n parts → AllHeld mid (names_in g) → PartsSoFar code n env (names_in f) parts k old mid ss → Evaluates code n (part_at (names_in g) parts k).0.0 copy (part_at (names_in g) parts k).1 mid new s → more ≡ ss ++ s ∷ [] → PartsSoFar code n env (names_in f) parts (k + 1) old new more
+parts_more code ordered free n env copy f g parts k old mid new ss more s inside same still within below held p turn list =
     let now : Evaluates code n (part_at (names_in f) parts k).0.0 env (part_at (names_in f) parts k).1 mid new s =
     subst (λ (q : FrameState). Evaluates code n (part_at (names_in q) parts k).0.0 env (part_at (names_in q) parts k).1 mid new s) still
     (subst (λ (q : Env). Evaluates code n (part_at (names_in g) parts k).0.0 q (part_at (names_in g) parts k).1 mid new s) same turn) in
-    let hand = sound_hand code ordered n (part_at (names_in g) parts k).0.0 copy (part_at (names_in g) parts k).1 mid new s (omega (arith, inside, part_below n (names_in g) parts k within below)) (part_built code (names_in g) parts k within can) p.hand.laws (part_held mid (names_in g) parts k held) turn in
+    let hand = sound_hand code ordered free n (part_at (names_in g) parts k).0.0 copy (part_at (names_in g) parts k).1 mid new s (omega (arith, inside, part_below n (names_in g) parts k within below)) p.hand.laws (part_held mid (names_in g) parts k held) turn in
     subst (λ xs. PartsSoFar code n env (names_in f) parts (k + 1) old new xs) (sym list) (record {
       turn = subst (λ (ps : List Part). PartsTurn (Evaluates code n) env ps old new (ss ++ s ∷ [])) (sym (map-range_with_len_more (part_at (names_in f) parts) 0 k k (omega arith)))
           (parts_then (Evaluates code n) env (map (part_at (names_in f) parts) (range_with_len 0 k)) old mid new ss (part_at (names_in f) parts k) s p.turn now);
       hand = hand_more old mid new ss (s ∷ []) p.hand hand;
     })
+
+-- parts that stand before a node stand in the table
+pub below_table : (n : ℕ) (code : Code) (parts : Parts) → n < length code.nodes → AreBelow n parts → AreBelow (length code.nodes) parts
+below_table n code (Listed es) inside below = below_all n (length code.nodes) es.now (omega (arith, inside)) below
+below_table n code (Counted i count e) inside below = omega (arith, inside, below)

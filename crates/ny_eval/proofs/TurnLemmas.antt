@@ -1,5 +1,6 @@
 -- Parts of a sequence, one after the other.
-use Rattle.std.proofs.Common.{◌≡◌, ◌⊎◌, inl, inr, ℕ, zero, suc, ◌+◌, ◌-◌, ◌<◌, ◌≤◌, List, [], ◌∷◌, ◌++◌, length, map, refl, sym, ap, subst, ◌∙◌, arith}
+use Rattle.std.proofs.Common.{◌≡◌, ◌⊎◌, inl, inr, ℕ, zero, suc, ◌+◌, ◌-◌, ◌<◌, ◌≤◌, List, [], ◌∷◌, ◌++◌, length, map, Bool, false, nat_lt, refl, sym, ap, subst, ◌∙◌, arith}
+use Rattle.std.proofs.lemmas.Bool.Decides.{nat_tests}
 use Rattle.std.specs.List.{range_with_len}
 use Rattle.std.proofs.lemmas.List.{append-nil, append_assoc, length-append, map-append}
 use Rattle.std.proofs.lemmas.List.FromFn.{map-range_with_len_more}
@@ -10,6 +11,8 @@ use Rattle.ny_num.specs.declared.timing.Timing.{Timing}
 use Rattle.ny_warp.specs.declared.env.Env.{Env}
 use Rattle.ny_resolve.specs.declared.term.NameId.{NameId}
 use Rattle.ny_warp.specs.Environment.{from_stop}
+use Rattle.ny_resolve.specs.declared.builtin.Order.{Order}
+use Rattle.ny_check.specs.declared.node.Node.{Node}
 use Rattle.ny_check.specs.declared.value.Value.{Value}
 use Rattle.ny_check.specs.declared.value.Value.TheVariants.{Number, Sound as SoundOf}
 use Rattle.ny_check.specs.Code.{Code, IsOrdered}
@@ -21,18 +24,22 @@ use Rattle.ny_heap.specs.Reach.{HeapLaws}
 use Rattle.ny_heap.specs.Sharing.{moved_to}
 use Rattle.ny_heap.specs.Steps.{last_stop_of, waiting_of, sounds_of}
 use Rattle.ny_hands.specs.declared.branch.Branch.{Branch}
-use Rattle.ny_hands.specs.Calls.{MakesUnit}
+use Rattle.ny_hands.specs.Calls.{MakesUnit, Brings}
 use Rattle.ny_hands.specs.Frames.{Names, AllHeld}
-use Rattle.ny_hands.specs.Hands.{Hand}
-use Rattle.ny_hands.proofs.HandLemmas.{hand_none, hand_more}
+use Rattle.ny_hands.specs.Hands.{Hand, InHand, GivesUp}
+use Rattle.ny_hands.proofs.HandLemmas.{marks_append, begin_append, begin_first, begin_last, hand_none, hand_more}
 use Rattle.ny_hands.proofs.PlaceLemmas.{placed_len, hand_placed}
 use Rattle.ny_hands.proofs.SpendLemmas.{hand_brought}
 use Rattle.ny_trace.specs.Evaluates.{Trace, Part, NextTurn, NextsTurn, WaitsTurn, SeqTurn, Evaluates, times_in}
+use Rattle.ny_trace.specs.Laws.{KeepsFree}
+use Rattle.ny_eval.specs.Framed.{FrameState, names_in}
+use Rattle.ny_laws.specs.Complete.{HasOperands, NodesAreWhole}
 use Rattle.ny_eval.specs.declared.parts.Parts.{Parts}
-use Rattle.ny_eval.specs.Parts.{count_in, parts_in, part_at, AreBelow, CanBePlayed}
-use Rattle.ny_eval.specs.Turns.{Follows, Gains, AreNext, Starts, AreEnough, RestTurn}
-use Rattle.ny_eval.specs.Waiting.{parts_between}
-use Rattle.ny_eval.proofs.PartLemmas.{parts_all, part_below, part_built, part_held}
+use Rattle.ny_eval.specs.declared.parts.Parts.TheVariants.{Listed, Counted}
+use Rattle.ny_eval.specs.Parts.{count_in, parts_in, part_at, AreBelow}
+use Rattle.ny_eval.specs.Turns.{Follows, Gains, AreNext, Starts, AreEnough, AreParts, RestTurn}
+use Rattle.ny_eval.specs.Waiting.{parts_between, WaitAll}
+use Rattle.ny_eval.proofs.PartLemmas.{parts_all, part_below, part_held}
 use Rattle.ny_eval.proofs.EvalLemmas.{sound_hand}
 
 -- ---- timings of names
@@ -65,9 +72,9 @@ follows_hand r stop old mid new a s others laws hand step =
     hand_placed old step.mid new (placed_timing (index_at stop r)) step.brought s others (placed_len (index_at stop r)) laws (hand_brought old mid step.mid r a step.brought others laws hand step.brings) step.places
 
 -- what came into hand with a part
-pub part_hand : (code : Code) → IsOrdered code → (n : ℕ) (env : Env) (names : Names) (parts : Parts) (k : ℕ) (old new : HeapState Branch) (s : Sound) → n < length code.nodes → k < count_in parts → AreBelow n parts → CanBePlayed code parts → HeapLaws old → AllHeld old names → Evaluates code n (part_at names parts k).0.0 env (part_at names parts k).1 old new s → Hand old new (s ∷ [])
-part_hand code ordered n env names parts k old new s inside within below can laws held turn =
-    sound_hand code ordered n (part_at names parts k).0.0 env (part_at names parts k).1 old new s (omega (arith, inside, part_below n names parts k within below)) (part_built code names parts k within can) laws (part_held old names parts k held) turn
+pub part_hand : (code : Code) → IsOrdered code → KeepsFree code → (n : ℕ) (env : Env) (names : Names) (parts : Parts) (k : ℕ) (old new : HeapState Branch) (s : Sound) → n < length code.nodes → k < count_in parts → AreBelow n parts → HeapLaws old → AllHeld old names → Evaluates code n (part_at names parts k).0.0 env (part_at names parts k).1 old new s → Hand old new (s ∷ [])
+part_hand code ordered free n env names parts k old new s inside within below laws held turn =
+    sound_hand code ordered free n (part_at names parts k).0.0 env (part_at names parts k).1 old new s (omega (arith, inside, part_below n names parts k within below)) laws (part_held old names parts k held) turn
 
 -- the part that follows one with this stop
 pub next_turn : (code : Code) (n : ℕ) (env late : Env) (stop : ℕ) (p : Part) (old mid new : HeapState Branch) (a s : Sound) → late ≡ from_stop env stop → Evaluates code n p.0.0 late p.1 old mid a → Follows env.sound_rate stop a mid new s → NextTurn (Evaluates code n) env stop p old new s
@@ -141,7 +148,7 @@ range_split a (suc m) l =
     ap (range_with_len a) count ∙ ap (λ (ns : List ℕ). a ∷ ns) (range_split (a + 1) m l ∙ ap (λ b. range_with_len (a + 1) m ++ range_with_len b l) from)
 
 -- the first part, m parts behind it, and l more
-parts_split : (names : Names) (parts : Parts) (m l k : ℕ) → count_in parts ≡ suc (m + l) → 1 + m ≡ k → parts_in names parts ≡ part_at names parts 0 ∷ (parts_between names parts 1 m ++ parts_between names parts k l)
+pub parts_split : (names : Names) (parts : Parts) (m l k : ℕ) → count_in parts ≡ suc (m + l) → 1 + m ≡ k → parts_in names parts ≡ part_at names parts 0 ∷ (parts_between names parts 1 m ++ parts_between names parts k l)
 parts_split names parts m l k count place =
     sym (parts_all names parts (suc (m + l)) (sym count))
     ∙ ap (λ (ps : List Part). part_at names parts 0 ∷ ps)
@@ -192,3 +199,88 @@ seq_turn code n e env names parts t old mid new ss s when few starts enough rest
         inl (none_waits code env (parts_between names parts (length ss) (count_in parts - length ss)) mid rest.mid rest.waiting (ap (λ l. parts_between names parts (length ss) l) none) rest.waits.turn)
     by_enough (inr late) =
         inr (subst (λ (xs : List Sound). t.start + rest.mid.block ≤ index_at (last_stop_of 0 xs) t.rate) list (subst (λ b. t.start + b ≤ index_at (last_stop_of 0 ss) t.rate) (sym rest.waits.hand.counts.block) late))
+
+-- ---- what waits, in hand beside what there is
+
+more_hand : {B : Type 0} (before old new : HeapState B) (ss others ks : List Sound) → Hand before old (ss ++ others) → Hand old new ks → Hand before new ((ss ++ ks) ++ others)
+more_hand before old new ss others ks hand more =
+    let all = hand_more before old new (ss ++ others) ks hand more in
+    record {
+      laws = all.laws;
+      counts = all.counts;
+      kept = all.kept;
+      marks = λ v j. omega (arith, all.marks v j, marks_append (ss ++ others) ks v j, marks_append ss others v j, marks_append (ss ++ ks) others v j, marks_append ss ks v j);
+      begin = begin_append new (ss ++ ks) others
+          (begin_append new ss ks (begin_first new ss others (begin_first new (ss ++ others) ks all.begin)) (begin_last new (ss ++ others) ks all.begin))
+          (begin_last new ss others (begin_first new (ss ++ others) ks all.begin));
+    }
+
+pub more_in_hand : {B : Type 0} (old new : HeapState B) (ss ks : List Sound) → InHand old ss → Hand old new ks → InHand new (ss ++ ks)
+more_in_hand old new ss ks is more = record { before = is.before; others = is.others; laws = is.laws; hand = more_hand is.before old new ss is.others ks is.hand more }
+
+pub more_given_up : {B : Type 0} (old mid new : HeapState B) (ss ks : List Sound) → Hand old mid ks → GivesUp mid new (ss ++ ks) → GivesUp old new ss
+more_given_up old mid new ss ks more gives before others laws hand = gives before others laws (more_hand before old mid ss others ks hand more)
+
+pub none_more_given_up : {B : Type 0} (old mid new : HeapState B) (ss items : List Sound) → items ≡ ss → Hand old mid [] → GivesUp mid new items → GivesUp old new ss
+none_more_given_up old mid new ss items same refused gives =
+    more_given_up old mid new ss [] refused (subst (λ (xs : List Sound). GivesUp mid new xs) (same ∙ sym (append-nil ss)) gives)
+
+pub none_more_in_hand : {B : Type 0} (old new : HeapState B) (ss items : List Sound) → items ≡ ss → InHand old ss → Hand old new [] → InHand new items
+none_more_in_hand old new ss items same is refused = subst (λ (xs : List Sound). InHand new xs) (append-nil ss ∙ sym same) (more_in_hand old new ss [] is refused)
+
+pub rest_turn : (code : Code) (env : Env) (names : Names) (parts : Parts) (from : ℕ) (t : Timing) (ss : List Sound) (old mid new : HeapState Branch) (qs : List (Branch × List Sound)) (s : Sound) → from ≡ length ss → WaitAll code env (parts_between names parts from (count_in parts - from)) old mid qs → MakesUnit mid new Mix t ss (map waiting_of qs) (ss ++ sounds_of qs) s → RestTurn code env (parts_between names parts (length ss) (count_in parts - length ss)) t ss old new s
+rest_turn code env names parts from t ss old mid new qs s place waits made = record {
+  waiting = qs;
+  mid = mid;
+  waits = subst (λ n. WaitAll code env (parts_between names parts n (count_in parts - n)) old mid qs) place waits;
+  made = made;
+}
+
+-- ---- parts that are due
+
+pub next_at : (code : Code) (n : ℕ) (env : Env) (f g : FrameState) (parts : Parts) (before : List Sound) (k last : ℕ) (old mid new : HeapState Branch) (ss more : List Sound) (s : Sound) → g ≡ f → last ≡ last_stop_of 0 ss → k ≡ length ss → AreNext code n env (names_in f) parts before old mid ss → NextTurn (Evaluates code n) env last (part_at (names_in g) parts k) mid new s → Hand mid new (s ∷ []) → more ≡ ss ++ s ∷ [] → AreNext code n env (names_in f) parts before old new more
+next_at code n env f g parts before k last old mid new ss more s same stop count p step hand list =
+    next_more code n env (names_in f) parts before k old mid new ss more s count p
+    (subst (λ (r : FrameState). NextTurn (Evaluates code n) env (last_stop_of 0 ss) (part_at (names_in r) parts k) mid new s) same
+    (subst (λ m. NextTurn (Evaluates code n) env m (part_at (names_in g) parts k) mid new s) stop step))
+    hand list
+
+pub last_behind : (ss more : List Sound) (s : Sound) → more ≡ ss ++ s ∷ [] → s.timing.stop ≡ last_stop_of 0 more
+last_behind ss more s list = sym (ap (last_stop_of 0) list ∙ stops_append 0 ss (s ∷ []))
+
+pub late_enough : (t : Timing) (block count last : ℕ) (b : Bool) (before : List Sound) (old new : HeapState Branch) (ss : List Sound) → b ≡ nat_lt (index_at last t.rate) (t.start + block) → b ≡ false → block ≡ old.block → last ≡ last_stop_of 0 ss → Gains before old new ss → AreEnough t new.block count ss
+late_enough t block count last b before old new ss is fails same stop p =
+    inr (subst (λ n. t.start + n ≤ index_at (last_stop_of 0 ss) t.rate) (same ∙ sym p.hand.counts.block)
+    (subst (λ m. t.start + block ≤ index_at m t.rate) stop (late (index_at last t.rate) (t.start + block) (sym is ∙ fails))))
+  where
+    late : (x y : ℕ) → nat_lt x y ≡ false → y ≤ x
+    late x y fails = grind (arith, nat_tests, fails)
+
+-- the same, where a list was given more room
+pub gains_in : (before : List Sound) (old new : HeapState Branch) (ss items : List Sound) → items ≡ ss → Gains before old new ss → Gains before old new items
+gains_in before old new ss items same p = subst (λ (xs : List Sound). Gains before old new xs) (sym same) p
+
+pub gained_hand : (old mid new : HeapState Branch) (before ss : List Sound) → Hand old mid before → Gains before mid new ss → Hand old new ss
+gained_hand old mid new before ss hand p = subst (λ (xs : List Sound). Hand old new xs) (sym p.all) (hand_more old mid new before p.others hand p.hand)
+
+pub starts_with : (code : Code) (n : ℕ) (env copy : Env) (f g : FrameState) (parts : Parts) (old one two new : HeapState Branch) (a b : Sound) (before ss : List Sound) → copy ≡ env → g ≡ f → before ≡ b ∷ [] → Evaluates code n (part_at (names_in f) parts 0).0.0 copy (part_at (names_in f) parts 0).1 old one a → Brings one two env.sound_rate a b → AreNext code n env (names_in g) parts before two new ss → Starts code n env (names_in f) parts old new ss
+starts_with code n env copy f g parts old one two new a b before ss same frame list evaluates brings next = record {
+  part = a;
+  brought = b;
+  one = one;
+  two = two;
+  evaluates = subst (λ (q : Env). Evaluates code n (part_at (names_in f) parts 0).0.0 q (part_at (names_in f) parts 0).1 old one a) same evaluates;
+  brings = brings;
+  next = subst (λ (r : FrameState). AreNext code n env (names_in r) parts (b ∷ []) two new ss) frame
+      (subst (λ (xs : List Sound). AreNext code n env (names_in g) parts xs two new ss) list next);
+}
+
+-- ---- a sequence has a part
+
+pub some_parts : (code : Code) (e : ℕ) (o : Order) (parts : Parts) → NodesAreWhole code → e < length code.nodes → AreParts code e o parts → 0 < count_in parts
+some_parts code e o (Listed es) whole inside is =
+    let some = (whole e inside).1 in
+    omega (arith, subst (λ (n : Node). HasOperands code some.0 n) is some.1)
+some_parts code e o (Counted i count a) whole inside is =
+    let some = (whole e inside).1 in
+    omega (arith, (subst (λ (n : Node). HasOperands code some.0 n) is some.1).0)

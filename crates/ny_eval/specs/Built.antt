@@ -1,14 +1,12 @@
--- Which expressions can be played yet: all but parts one after another, and `vector`. A call can be played where the body of its
--- function can. A global variable is a number, whatever it is made of.
-use Rattle.std.specs.Prelude.{◌≡◌, ℕ, Bool, true, false, ◌&&◌, List, [], ◌∷◌}
+-- Which expressions can be played yet: all but `vector`. A call can be played where the body of its function can. A global variable is a
+-- number, whatever it is made of.
+use Rattle.std.specs.Prelude.{ℕ, Bool, true, false, ◌&&◌, List, [], ◌∷◌}
 use Rattle.ny_check.specs.declared.node.Node.{Node}
 use Rattle.ny_check.specs.declared.node.Node.TheVariants as node
 use Rattle.ny_check.specs.declared.node.Change.{Change}
 use Rattle.ny_check.specs.declared.node.Change.TheVariants as change
 use Rattle.ny_check.specs.declared.node.ExprId.{ExprId}
 use Rattle.ny_check.specs.Code.{Code, node_at, function_at}
-use Rattle.ny_resolve.specs.declared.builtin.Order.{Order}
-use Rattle.ny_resolve.specs.declared.builtin.Order.TheVariants as order
 use Rattle.ny_resolve.specs.declared.term.NameId.{NameId}
 use Rattle.ny_check.specs.Recursion.{by_smaller}
 
@@ -28,11 +26,6 @@ change_built (change.By t k) rec = rec k.0
 change_built (change.Warp m) rec = true
 change_built (change.Rate rated r) rec = true
 
--- parts can be played together, and not yet one after another
-abbrev pub is_together : Order → Bool
-is_together order.Together = true
-is_together order.InTurn = false
-
 -- Whether a node can be played, of which nodes before it can: one of the forms that are played, over parts that can be played.
 abbrev pub built_node : Code → Node → (ℕ → Bool) → Bool
 built_node code (node.Number v) rec = true
@@ -51,8 +44,8 @@ built_node code (node.If c a b) rec = rec c.0 && (rec a.0 && rec b.0)
 built_node code (node.Leaf w es) rec = all_built es rec true
 built_node code (node.Effect w e es) rec = all_built es rec (rec e.0)
 built_node code (node.Cue e) rec = rec e.0
-built_node code (node.Mix o es) rec = all_built es rec (is_together o)
-built_node code (node.Repeat o x k e) rec = is_together o && rec e.0
+built_node code (node.Mix o es) rec = all_built es rec true
+built_node code (node.Repeat o x k e) rec = rec e.0
 built_node code (node.Change c e) rec = change_built c rec && rec e.0
 built_node code _ rec = false
 
@@ -63,12 +56,3 @@ built code = by_smaller false (λ e rec. built_node code (node_at code e) rec)
 -- a program can be played where what it plays can
 unfoldable pub is_built : Code → Bool
 is_built code = built code code.play.0
-
--- the same of several
-abbrev pub AreBuilt : Code → List ExprId → Type 0
-AreBuilt code [] = Unit {0}
-AreBuilt code (e ∷ es) = (built code e.0 ≡ true) × AreBuilt code es
-
-abbrev pub AreBindsBuilt : Code → List (NameId × ExprId) → Type 0
-AreBindsBuilt code [] = Unit {0}
-AreBindsBuilt code (b ∷ bs) = (built code b.1.0 ≡ true) × AreBindsBuilt code bs

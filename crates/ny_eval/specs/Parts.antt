@@ -1,11 +1,10 @@
 -- The parts of a mix: several expressions in the same names, or one expression so many times, in which a name stands for 0, 1, and so on.
-use Rattle.std.specs.Prelude.{◌≡◌, ℕ, ◌<◌, List, length, get_or, true}
+use Rattle.std.specs.Prelude.{ℕ, ◌<◌, List, length, get_or}
 use Rattle.ny_check.specs.Code.{Code, AllBelow}
 use Rattle.ny_hands.specs.Frames.{Names}
 use Rattle.ny_trace.specs.Evaluates.{Part, parts_of, counted_names, counted_parts}
 use Rattle.ny_eval.specs.declared.parts.Parts.{Parts}
 use Rattle.ny_eval.specs.declared.parts.Parts.TheVariants.{Listed, Counted}
-use Rattle.ny_eval.specs.Built.{built, AreBuilt}
 
 abbrev pub count_in : Parts → ℕ
 count_in (Listed es) = length es.now
@@ -25,8 +24,3 @@ part_at names (Counted i count e) k = (e, counted_names names i k)
 abbrev pub AreBelow : ℕ → Parts → Type 0
 AreBelow n (Listed es) = AllBelow n es.now
 AreBelow n (Counted i count e) = e.0 < n
-
--- and can be played
-abbrev pub CanBePlayed : Code → Parts → Type 0
-CanBePlayed code (Listed es) = AreBuilt code es.now
-CanBePlayed code (Counted i count e) = built code e.0 ≡ true

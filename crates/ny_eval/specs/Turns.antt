@@ -5,6 +5,7 @@ use Rattle.ny_num.specs.Sound.{placed_timing}
 use Rattle.ny_num.specs.declared.rate.Rate.{Rate}
 use Rattle.ny_num.specs.declared.timing.Timing.{Timing}
 use Rattle.ny_warp.specs.declared.env.Env.{Env}
+use Rattle.ny_resolve.specs.declared.builtin.Order.{Order}
 use Rattle.ny_resolve.specs.declared.builtin.Order.TheVariants.{InTurn}
 use Rattle.ny_check.specs.declared.node.Node.TheVariants as node
 use Rattle.ny_check.specs.Code.{Code, node_at}
@@ -60,7 +61,11 @@ pub record RestTurn (code : Code) (env : Env) (later : List Part) (t : Timing) (
   pub waits : WaitAll code env later old mid waiting
   pub made : MakesUnit mid new Mix t ss (map waiting_of waiting) (ss ++ sounds_of waiting) s
 
+-- a node has these parts in this order
+abbrev pub AreParts : Code → ℕ → Order → Parts → Type 0
+AreParts code e o (Listed es) = node_at code e ≡ node.Mix o es.now
+AreParts code e o (Counted i count a) = node_at code e ≡ node.Repeat o i count a
+
 -- a node has these parts, one after another
 abbrev pub AreInTurn : Code → ℕ → Parts → Type 0
-AreInTurn code e (Listed es) = node_at code e ≡ node.Mix InTurn es.now
-AreInTurn code e (Counted i count a) = node_at code e ≡ node.Repeat InTurn i count a
+AreInTurn code e = AreParts code e InTurn

@@ -1,9 +1,9 @@
 ghost use Rattle.std.specs.Prelude.{◌≡◌, ◌+◌, ◌<◌, ◌&&◌, false, length, map, slice_index_or, IfOk, ℕ};
 ghost use Rattle.std.specs.List.{range_with_len};
 ghost use Rattle.ny_check.specs.Code.{node_at};
-ghost use Rattle.ny_eval.specs.Built.{all_built, binds_built, change_built, is_together, built_node, built, is_built};
+ghost use Rattle.ny_eval.specs.Built.{all_built, binds_built, change_built, built_node, built, is_built};
 
-use ny_check::{Change, ExprId, NameId, Node, Order, Program};
+use ny_check::{Change, ExprId, NameId, Node, Program};
 use std::alloc::{AllocError, Global};
 
 fn both(a: bool, b: bool) -> bool
@@ -54,16 +54,6 @@ fn change_built(change: &Change, known: &[bool]) -> bool
     }
 }
 
-// Whether parts in this order can be played.
-fn is_together(order: Order) -> bool
-    ensures { result ≡ is_together order }
-{
-    match order {
-        Order::Together => true,
-        Order::InTurn => false,
-    }
-}
-
 // Whether a node can be played, of what is known of the nodes before it.
 fn built_node(p: &Program, e: ExprId, known: &[bool]) -> bool
     requires { e.0 < length p.now.nodes }
@@ -71,7 +61,11 @@ fn built_node(p: &Program, e: ExprId, known: &[bool]) -> bool
 {
     match p.node(e) {
         Node::Number(_) | Node::Local(_) | Node::Global(_) => true,
-        Node::Div(a, _) | Node::Neg(a) | Node::Not(a) | Node::Cue(a) => known_of(known, *a),
+        Node::Div(a, _)
+        | Node::Neg(a)
+        | Node::Not(a)
+        | Node::Cue(a)
+        | Node::Repeat(_, _, _, a) => known_of(known, *a),
         Node::Pair(_, a, b) | Node::Compare(_, a, b) | Node::And(a, b) | Node::Or(a, b) => {
             both(known_of(known, *a), known_of(known, *b))
         }
@@ -81,10 +75,8 @@ fn built_node(p: &Program, e: ExprId, known: &[bool]) -> bool
         ),
         Node::Call(f, es) => all_built(es.as_slice(), known, known_of(known, p.body(*f))),
         Node::Block(binds, value) => binds_built(binds.as_slice(), known, known_of(known, *value)),
-        Node::Leaf(_, es) => all_built(es.as_slice(), known, true),
+        Node::Leaf(_, es) | Node::Mix(_, es) => all_built(es.as_slice(), known, true),
         Node::Effect(_, e, es) => all_built(es.as_slice(), known, known_of(known, *e)),
-        Node::Mix(order, es) => all_built(es.as_slice(), known, is_together(*order)),
-        Node::Repeat(order, _, _, e) => both(is_together(*order), known_of(known, *e)),
         Node::Change(change, e) => both(change_built(change, known), known_of(known, *e)),
         Node::Vector(_) => false,
     }

@@ -4,30 +4,32 @@ ghost use Rattle.ny_check.specs.Families.{changed_env};
 ghost use Rattle.ny_check.specs.Values.{scalars_of, number_of};
 ghost use Rattle.ny_check.specs.Heights.{height_of};
 ghost use Rattle.ny_check.specs.Meaning.{meaning};
-ghost use Rattle.ny_eval.specs.Below.{IsSettled};
-ghost use Rattle.ny_eval.specs.Built.{built, AreBuilt, AreBindsBuilt};
+ghost use Rattle.ny_walk.specs.Below.{IsSettled};
 ghost use Rattle.ny_eval.specs.Framed.{names_in, HasGrown, AreBound, ArePassed};
-ghost use Rattle.ny_eval.specs.Parts.{count_in, parts_in, part_at, AreBelow, CanBePlayed};
+ghost use Rattle.ny_eval.specs.Parts.{count_in, parts_in, part_at, AreBelow};
 ghost use Rattle.ny_hands.specs.Frames.{AllHeld, bound_in, part_is, sounds_among};
+ghost use Rattle.ny_heap.specs.Steps.{last_stop_of};
+ghost use Rattle.ny_eval.specs.Turns.{Gains, AreNext, Starts, AreEnough, AreParts, AreInTurn};
 ghost use Rattle.ny_hands.specs.Hands.{Hand, Comes, item};
 ghost use Rattle.ny_trace.specs.Heights.{Ranks, AreLow, Stands};
-ghost use Rattle.ny_trace.specs.Evaluates.{Evaluates, ValueTurn, OperationTurn, SignTurn, EffectTurn, BlockTurn, CallTurn, CueTurn, PartsTurn, SimTurn, NextTurn, numbers_in};
+ghost use Rattle.ny_trace.specs.Evaluates.{Evaluates, ValueTurn, OperationTurn, SignTurn, EffectTurn, BlockTurn, CallTurn, CueTurn, PartsTurn, MixTurn, SimTurn, NextTurn, SeqTurn, numbers_in};
 
 use crate::cue::cued;
 use crate::filter::make_of;
 use crate::frame::Frame;
+use crate::laws::program_laws;
 use crate::leaf::{lawful, make_leaf, silent};
 use crate::mixing::{give_up_all, mixed};
 use crate::name::named;
 use crate::parts::{Parts, expr_at, turn_number};
-use crate::turn::{env_from, following};
-use crate::unit::{give_up, joined, single};
+use crate::turn::{env_from, following, is_due, stop_of, whole_timing, with_rest};
+use crate::unit::{brought, give_up, joined, single};
 use crate::values::{no_names, number_in, numbers};
 use ny_check::changes::{change_by, change_rate};
-use ny_check::{Binds, Change, Effect, ExprId, FunctionId, NameId, Node, Program, Value};
+use ny_check::{Binds, Change, Effect, ExprId, FunctionId, NameId, Node, Order, Program, Value};
 use ny_hands::Branch;
 use ny_heap::{Heap, Op, Sound};
-use ny_num::{Fix, Ticks};
+use ny_num::{Fix, Ticks, Timing};
 use ny_warp::Env;
 use std::alloc::{AllocError, Global};
 use std::collections::VecDeque;
@@ -74,7 +76,7 @@ fn chosen(holds: bool, a: ExprId, b: ExprId) -> ExprId
 /// # Errors
 /// `AllocError` where memory is missing. The heap is then as before.
 #[cycle(evaluate)]
-fn evaluate(
+pub(crate) fn evaluate(
     alloc: Global,
     p: &Program,
     e: ExprId,
@@ -83,7 +85,6 @@ fn evaluate(
     heap: &mut Heap<Branch>,
 ) -> Result<Sound, AllocError>
     requires inside { e.0 < length p.now.nodes }
-    requires built { built p.now e.0 ≡ true }
     requires names { AllHeld heap.old (names_in frame.old) }
     ensures evaluates { IfOk result (λ s. Evaluates p.now (e.0 + 1) e.0 env (names_in frame.old) heap.old heap.new s) }
     ensures same { frame.new ≡ frame.old }
@@ -115,13 +116,13 @@ fn evaluate(
             )?)
         }
         Node::Cue(part) => Ok(cue(alloc, p, *part, env, frame, heap)?),
-        Node::Mix(_, parts) => {
+        Node::Mix(order, parts) => {
             let listed = Parts::Listed(parts.as_slice());
-            Ok(together(alloc, p, e, listed, env, frame, heap)?)
+            Ok(in_order(alloc, p, e, *order, listed, env, frame, heap)?)
         }
-        Node::Repeat(_, i, count, part) => {
+        Node::Repeat(order, i, count, part) => {
             let counted = Parts::Counted(*i, *count, *part);
-            Ok(together(alloc, p, e, counted, env, frame, heap)?)
+            Ok(in_order(alloc, p, e, *order, counted, env, frame, heap)?)
         }
         Node::If(c, a, b) => {
             let part = chosen(frame.test(alloc, p, *c)?, *a, *b);
@@ -150,7 +151,6 @@ fn operand(
     heap: &mut Heap<Branch>,
 ) -> Result<Value<Sound>, AllocError>
     requires inside { e.0 < length p.now.nodes }
-    requires built { built p.now e.0 ≡ true }
     requires names { AllHeld heap.old (names_in frame.old) }
     ensures turn { IfOk result (λ v. ValueTurn (Evaluates p.now (e.0 + 1)) p.now env (names_in frame.old) e heap.old heap.new v) }
     ensures same { frame.new ≡ frame.old }
@@ -181,14 +181,12 @@ fn pair(
 ) -> Result<Sound, AllocError>
     requires first { a.0 < length p.now.nodes }
     requires second { b.0 < length p.now.nodes }
-    requires built_first { built p.now a.0 ≡ true }
-    requires built_second { built p.now b.0 ≡ true }
     requires names { AllHeld heap.old (names_in frame.old) }
     ensures turn { IfOk result (λ s. (n : ℕ) → max a.0 b.0 < n → OperationTurn (Evaluates p.now n) p.now op a b env (names_in frame.old) heap.old heap.new s) }
     ensures same { frame.new ≡ frame.old }
     ensures refused { OnErr result (Hand heap.old heap.new []) }
 {
-    p.order_law();
+    program_laws(p);
     lawful(heap);
     let rate = env.sound_rate;
     let left = operand(alloc, p, a, env.copy(alloc)?, frame, heap)?;
@@ -215,13 +213,12 @@ fn negated(
     heap: &mut Heap<Branch>,
 ) -> Result<Sound, AllocError>
     requires inside { a.0 < length p.now.nodes }
-    requires built { built p.now a.0 ≡ true }
     requires names { AllHeld heap.old (names_in frame.old) }
     ensures turn { IfOk result (λ s. (n : ℕ) → a.0 < n → SignTurn (Evaluates p.now n) p.now a env (names_in frame.old) heap.old heap.new s) }
     ensures same { frame.new ≡ frame.old }
     ensures refused { OnErr result (Hand heap.old heap.new []) }
 {
-    p.order_law();
+    program_laws(p);
     lawful(heap);
     let rate = env.sound_rate;
     let value = operand(alloc, p, a, env, frame, heap)?;
@@ -246,14 +243,13 @@ fn affected(
 ) -> Result<Sound, AllocError>
     requires inside { e.0 < length p.now.nodes }
     requires part { part.0 < length p.now.nodes }
-    requires built { built p.now part.0 ≡ true }
     requires below { AllBelow e.0 parts.now }
     requires names { AllHeld heap.old (names_in frame.old) }
     ensures turn { IfOk result (λ s. (n : ℕ) → part.0 < n → EffectTurn (Evaluates p.now n) effect part (numbers_in p.now (names_in frame.old) parts.now) env (names_in frame.old) heap.old heap.new s) }
     ensures same { frame.new ≡ frame.old }
     ensures refused { OnErr result (Hand heap.old heap.new []) }
 {
-    p.order_law();
+    program_laws(p);
     lawful(heap);
     let numbers = numbers(alloc, p, e, parts, frame)?;
     let sound = evaluate(alloc, p, part, env, frame, heap)?;
@@ -275,13 +271,12 @@ fn cue(
     heap: &mut Heap<Branch>,
 ) -> Result<Sound, AllocError>
     requires inside { part.0 < length p.now.nodes }
-    requires built { built p.now part.0 ≡ true }
     requires names { AllHeld heap.old (names_in frame.old) }
     ensures turn { IfOk result (λ s. (n : ℕ) → part.0 < n → CueTurn (Evaluates p.now n) part env (names_in frame.old) heap.old heap.new s) }
     ensures same { frame.new ≡ frame.old }
     ensures refused { OnErr result (Hand heap.old heap.new []) }
 {
-    p.order_law();
+    program_laws(p);
     lawful(heap);
     let sound = evaluate(alloc, p, part, env.copy(alloc)?, frame, heap)?;
     Ok(cued(alloc, sound, &env, heap)?)
@@ -304,14 +299,13 @@ fn part(
 ) -> Result<Sound, AllocError>
     requires inside { e.0 < length p.now.nodes }
     requires below { AreBelow e.0 parts.now }
-    requires built { CanBePlayed p.now parts.now }
     requires place { k < count_in parts.now }
     requires names { AllHeld heap.old (names_in frame.old) }
     ensures evaluates { IfOk result (λ s. Evaluates p.now e.0 (part_at (names_in frame.old) parts.now k).0.0 env (part_at (names_in frame.old) parts.now k).1 heap.old heap.new s) }
     ensures same { frame.new ≡ frame.old }
     ensures refused { OnErr result (Hand heap.old heap.new []) }
 {
-    p.order_law();
+    program_laws(p);
     lawful(heap);
     match parts {
         Parts::Listed(listed) => Ok(evaluate(alloc, p, expr_at(listed, k), env, frame, heap)?),
@@ -342,7 +336,6 @@ fn each_part(
 ) -> Result<(), AllocError>
     requires inside { e.0 < length p.now.nodes }
     requires below { AreBelow e.0 parts.now }
-    requires built { CanBePlayed p.now parts.now }
     requires names { AllHeld heap.old (names_in frame.old) }
     requires none { sounds.old.items ≡ [] }
     requires room { count_in parts.now ≤ vec_capacity sounds.old }
@@ -350,7 +343,7 @@ fn each_part(
     ensures hand { Hand heap.old heap.new sounds.new.items }
     ensures same { frame.new ≡ frame.old }
 {
-    p.order_law();
+    program_laws(p);
     lawful(heap);
     for k in 0..parts.count() {
         let sound = part(alloc, p, e, parts, k, env.copy(alloc)?, frame, heap)?;
@@ -375,7 +368,6 @@ fn together(
 ) -> Result<Sound, AllocError>
     requires inside { e.0 < length p.now.nodes }
     requires below { AreBelow e.0 parts }
-    requires built { CanBePlayed p.now parts }
     requires names { AllHeld heap.old (names_in frame.old) }
     ensures turn { IfOk result (λ s. SimTurn (Evaluates p.now e.0) (parts_in (names_in frame.old) parts.entry) env heap.old heap.new s) }
     ensures same { frame.new ≡ frame.old }
@@ -389,6 +381,35 @@ fn together(
             give_up_all(VecDeque::from(sounds), heap);
             Err(fault)
         }
+    }
+}
+
+/// Parts in an order, in an environment.
+///
+/// # Errors
+/// `AllocError` where memory is missing. The heap is then as before.
+#[cycle(evaluate)]
+fn in_order(
+    alloc: Global,
+    p: &Program,
+    e: ExprId,
+    order: Order,
+    parts: Parts<'_>,
+    env: Env,
+    frame: &mut Frame<'_>,
+    heap: &mut Heap<Branch>,
+) -> Result<Sound, AllocError>
+    requires inside { e.0 < length p.now.nodes }
+    requires below { AreBelow e.0 parts }
+    requires node { AreParts p.now e.0 order parts }
+    requires names { AllHeld heap.old (names_in frame.old) }
+    ensures turn { IfOk result (λ s. MixTurn (Evaluates p.now e.0) p.now e.0 order (parts_in (names_in frame.old) parts.entry) env (names_in frame.old) heap.old heap.new s) }
+    ensures same { frame.new ≡ frame.old }
+    ensures refused { OnErr result (Hand heap.old heap.new []) }
+{
+    match order {
+        Order::Together => Ok(together(alloc, p, e, parts, env, frame, heap)?),
+        Order::InTurn => Ok(in_turn(alloc, p, e, parts, env, frame, heap)?),
     }
 }
 
@@ -408,12 +429,11 @@ fn bind_all(
 ) -> Result<(), AllocError>
     requires inside { e.0 < length p.now.nodes }
     requires below { BindsBelow e.0 binds.now }
-    requires built { AreBindsBuilt p.now binds.now }
     requires names { AllHeld heap.old (names_in frame.old) }
     ensures bound { OnOk result (AreBound p.now e.0 env.now binds.now frame.old frame.new heap.old heap.new) }
     ensures grown { OnErr result (HasGrown frame.old frame.new heap.old heap.new) }
 {
-    p.order_law();
+    program_laws(p);
     lawful(heap);
     for (name, part) in binds {
         let value = operand(alloc, p, *part, env.copy(alloc)?, frame, heap)?;
@@ -440,14 +460,12 @@ fn block(
     requires inside { e.0 < length p.now.nodes }
     requires below { BindsBelow e.0 binds.now }
     requires value { value.0 < e.0 }
-    requires built_binds { AreBindsBuilt p.now binds.now }
-    requires built_value { built p.now value.0 ≡ true }
     requires names { AllHeld heap.old (names_in frame.old) }
     ensures turn { IfOk result (λ s. BlockTurn (Evaluates p.now e.0) p.now binds.now value env (names_in frame.old) heap.old heap.new s) }
     ensures same { frame.new ≡ frame.old }
     ensures refused { OnErr result (Hand heap.old heap.new []) }
 {
-    p.order_law();
+    program_laws(p);
     lawful(heap);
     let before = frame.len();
     match bind_all(alloc, p, e, binds, &env, frame, heap) {
@@ -481,13 +499,12 @@ fn arguments(
 ) -> Result<(), AllocError>
     requires inside { e.0 < length p.now.nodes }
     requires below { AllBelow e.0 parts.now }
-    requires built { AreBuilt p.now parts.now }
     requires names { AllHeld heap.old (names_in frame.old) }
     ensures passed { OnOk result (ArePassed p.now e.0 env.now (names_in frame.old) params.now (take (length params.now) parts.now) inner.old inner.new heap.old heap.new) }
     ensures grown { OnErr result (HasGrown inner.old inner.new heap.old heap.new) }
     ensures same { frame.new ≡ frame.old }
 {
-    p.order_law();
+    program_laws(p);
     lawful(heap);
     let count = params.len().min(parts.len());
     for i in 0..count {
@@ -516,17 +533,15 @@ fn call(
     requires below { AllBelow e.0 parts.now }
     requires function { f.0 < length p.now.functions }
     requires body { (function_at p.now f.0).body.0 < e.0 }
-    requires built_parts { AreBuilt p.now parts.now }
-    requires built_body { built p.now (function_at p.now f.0).body.0 ≡ true }
     requires names { AllHeld heap.old (names_in frame.old) }
     ensures turn { IfOk result (λ s. CallTurn (Evaluates p.now e.0) p.now (function_at p.now f.0).params (function_at p.now f.0).body.0 parts.now env (names_in frame.old) heap.old heap.new s) }
     ensures same { frame.new ≡ frame.old }
     ensures refused { OnErr result (Hand heap.old heap.new []) }
 {
-    p.order_law();
+    program_laws(p);
     lawful(heap);
     let none = no_names(alloc);
-    let mut inner = Frame::of(alloc, &none)?;
+    let mut inner = Frame::of(alloc, none.names.as_slice())?;
     match arguments(
         alloc,
         p,
@@ -554,6 +569,7 @@ fn call(
 ///
 /// # Errors
 /// `AllocError` where memory is missing. The heap is then as before.
+#[cycle(evaluate)]
 fn next_part(
     alloc: Global,
     p: &Program,
@@ -567,7 +583,6 @@ fn next_part(
 ) -> Result<Sound, AllocError>
     requires inside { e.0 < length p.now.nodes }
     requires below { AreBelow e.0 parts.now }
-    requires built { CanBePlayed p.now parts.now }
     requires place { k < count_in parts.now }
     requires names { AllHeld heap.old (names_in frame.old) }
     ensures turn { IfOk result (λ s. NextTurn (Evaluates p.now e.0) env.now stop (part_at (names_in frame.old) parts.now k) heap.old heap.new s) }
@@ -575,15 +590,135 @@ fn next_part(
     ensures same { frame.new ≡ frame.old }
     ensures refused { OnErr result (Hand heap.old heap.new []) }
 {
-    p.order_law();
+    program_laws(p);
     lawful(heap);
     let late = env_from(alloc, env, stop)?;
     let sound = part(alloc, p, e, parts, k, late, frame, heap)?;
     Ok(following(alloc, sound, stop, env.sound_rate, heap)?)
 }
 
+/// The parts of a sequence behind those that are there, as long as their places lie in the first block of what is heard at `when`.
+/// `stop` is the stop of the last part that is there.
+///
+/// # Errors
+/// `AllocError` where memory is missing. Those before are then in hand.
+#[cycle(evaluate)]
+fn due_parts(
+    alloc: Global,
+    p: &Program,
+    e: ExprId,
+    parts: &Parts<'_>,
+    when: &Timing,
+    block: u32,
+    stop: Ticks,
+    env: &Env,
+    frame: &mut Frame<'_>,
+    sounds: &mut Vec<Sound>,
+    heap: &mut Heap<Branch>,
+) -> Result<(), AllocError>
+    requires inside { e.0 < length p.now.nodes }
+    requires below { AreBelow e.0 parts.now }
+    requires names { AllHeld heap.old (names_in frame.old) }
+    requires few { length sounds.old.items ≤ count_in parts.now }
+    requires stop { stop ≡ last_stop_of 0 sounds.old.items }
+    requires block { block ≡ heap.old.block }
+    ensures next { OnOk result (AreNext p.now e.0 env.now (names_in frame.old) parts.now sounds.old.items heap.old heap.new sounds.new.items) }
+    ensures few { OnOk result (length sounds.new.items ≤ count_in parts.now) }
+    ensures enough { OnOk result (AreEnough when.now heap.new.block (count_in parts.now) sounds.new.items) }
+    ensures gains { Gains sounds.old.items heap.old heap.new sounds.new.items }
+    ensures same { frame.new ≡ frame.old }
+{
+    lawful(heap);
+    let mut last = stop;
+    for k in sounds.len()..parts.count() {
+        if !is_due(last, when, block) {
+            return Ok(());
+        }
+        sounds.reserve(1)?;
+        let sound = next_part(alloc, p, e, parts, k, last, env, frame, heap)?;
+        last = stop_of(&sound);
+        sounds.push_reserved(sound);
+    }
+    Ok(())
+}
+
+/// The parts of a sequence that is heard at `when` whose places lie in its first block, the first part in any case.
+///
+/// # Errors
+/// `AllocError` where memory is missing. Those before are then in hand.
+#[cycle(evaluate)]
+fn first_block(
+    alloc: Global,
+    p: &Program,
+    e: ExprId,
+    parts: &Parts<'_>,
+    when: &Timing,
+    block: u32,
+    env: &Env,
+    frame: &mut Frame<'_>,
+    sounds: &mut Vec<Sound>,
+    heap: &mut Heap<Branch>,
+) -> Result<(), AllocError>
+    requires inside { e.0 < length p.now.nodes }
+    requires below { AreBelow e.0 parts.now }
+    requires some { 0 < count_in parts.now }
+    requires names { AllHeld heap.old (names_in frame.old) }
+    requires none { sounds.old.items ≡ [] }
+    requires block { block ≡ heap.old.block }
+    ensures starts { OnOk result (Starts p.now e.0 env.now (names_in frame.old) parts.now heap.old heap.new sounds.new.items) }
+    ensures few { OnOk result (length sounds.new.items ≤ count_in parts.now) }
+    ensures enough { OnOk result (AreEnough when.now heap.new.block (count_in parts.now) sounds.new.items) }
+    ensures hand { Hand heap.old heap.new sounds.new.items }
+    ensures same { frame.new ≡ frame.old }
+{
+    program_laws(p);
+    lawful(heap);
+    sounds.reserve(1)?;
+    let first = part(alloc, p, e, parts, 0, env.copy(alloc)?, frame, heap)?;
+    let sound = brought(alloc, first, env.sound_rate, heap)?;
+    let stop = stop_of(&sound);
+    sounds.push_reserved(sound);
+    Ok(due_parts(alloc, p, e, parts, when, block, stop, env, frame, sounds, heap)?)
+}
+
+/// Parts one after another, in an environment: those whose places lie in the first block are evaluated, and the others wait.
+///
+/// # Errors
+/// `AllocError` where memory is missing. The heap is then as before.
+#[cycle(evaluate)]
+fn in_turn(
+    alloc: Global,
+    p: &Program,
+    e: ExprId,
+    parts: Parts<'_>,
+    env: Env,
+    frame: &mut Frame<'_>,
+    heap: &mut Heap<Branch>,
+) -> Result<Sound, AllocError>
+    requires inside { e.0 < length p.now.nodes }
+    requires below { AreBelow e.0 parts }
+    requires node { AreInTurn p.now e.0 parts }
+    requires names { AllHeld heap.old (names_in frame.old) }
+    ensures turn { IfOk result (λ s. SeqTurn (Evaluates p.now e.0) p.now e.0 (parts_in (names_in frame.old) parts.entry) env (names_in frame.old) heap.old heap.new s) }
+    ensures same { frame.new ≡ frame.old }
+    ensures refused { OnErr result (Hand heap.old heap.new []) }
+{
+    program_laws(p);
+    lawful(heap);
+    let when = whole_timing(alloc, p, e, &env, frame)?;
+    let block = heap.block();
+    let mut there = Vec::new(alloc);
+    match first_block(alloc, p, e, &parts, &when, block, &env, frame, &mut there, heap) {
+        Ok(()) => Ok(with_rest(alloc, p, &parts, there, when, &env, frame, heap)?),
+        Err(fault) => {
+            give_up_all(VecDeque::from(there), heap);
+            Err(fault)
+        }
+    }
+}
+
 /// The sound that an expression is, in an environment, as a sound of the heap
-/// (`docs/DEFINITIONS.md`, "The trace of an evaluation"). A number and a test are silent.
+/// (`docs/DEFINITIONS.md`, "The trace of an evaluation"). A number, a test and a vector are silent.
 ///
 /// # Errors
 /// `AllocError` where memory is missing. The heap is then as before.
@@ -596,7 +731,6 @@ pub fn eval(
     heap: &mut Heap<Branch>,
 ) -> Result<Sound, AllocError>
     requires inside { e.0 < length p.now.nodes }
-    requires built { built p.now e.0 ≡ true }
     requires names { AllHeld heap.old binds.now.names }
     ensures evaluates { IfOk result (λ s. Evaluates p.now (e.0 + 1) e.0 env binds.now.names heap.old heap.new s) }
     ensures means { IfOk result (λ s. Comes (part_is p.now) heap.old heap.new (item s (λ w. meaning p.now e.0 env (bound_in w binds.now.names)) ∷ [])) }
@@ -604,9 +738,9 @@ pub fn eval(
     ensures settles { IfOk result (λ s. IsSettled heap.old → IsSettled heap.new) }
     ensures refused { OnErr result (Hand heap.old heap.new []) }
 {
-    p.order_law();
+    program_laws(p);
     p.height_law();
     lawful(heap);
-    let mut frame = Frame::of(alloc, binds)?;
+    let mut frame = Frame::of(alloc, binds.names.as_slice())?;
     Ok(evaluate(alloc, p, e, env, &mut frame, heap)?)
 }

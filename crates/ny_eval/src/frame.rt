@@ -181,14 +181,16 @@ impl<'a> Frame<'a> {
     ///
     /// # Errors
     /// `AllocError` where memory is missing.
-    pub(crate) fn of(alloc: Global, binds: &'a Binds<Sound>) -> Result<Frame<'a>, AllocError>
-        ensures { IfOk result (λ f. f ≡ record { lent = binds.now.names; bound = [] }) }
+    pub(crate) fn of(
+        alloc: Global,
+        names: &'a [(NameId, Value<Sound>)],
+    ) -> Result<Frame<'a>, AllocError>
+        ensures { IfOk result (λ f. f ≡ record { lent = names.now; bound = [] }) }
     {
-        let lent = binds.names.as_slice();
-        let places = places_of(alloc, lent)?;
-        let scalars = scalars_of(alloc, lent)?;
+        let places = places_of(alloc, names)?;
+        let scalars = scalars_of(alloc, names)?;
         Ok(Frame {
-            lent,
+            lent: names,
             bound: Vec::new(alloc),
             places,
             scalars,

@@ -1,7 +1,9 @@
-use Rattle.std.proofs.Common.{◌≡◌, ◌+◌, ◌*◌, max, take, drop, length, vec_capacity}
+use Rattle.std.proofs.Common.{◌≡◌, ◌≤◌, ◌+◌, ◌*◌, max, take, drop, length, vec_capacity}
 use Rattle.ny_check.specs.Code.{BindsBelow}
-use Rattle.ny_eval.specs.Built.{AreBindsBuilt}
+use Rattle.ny_heap.specs.Steps.{last_stop_of}
 use Rattle.ny_eval.specs.Framed.{names_in, AreBound}
+use Rattle.ny_eval.specs.Parts.{count_in}
+use Rattle.ny_eval.specs.Turns.{AreNext}
 use Rattle.ny_eval.proofs.BodyLemmas.{PassedSoFar}
 use Rattle.ny_eval.proofs.PartLemmas.{PartsSoFar}
 use Rattle.ny_eval.proofs.expression.+evaluate.Given as goal
@@ -21,6 +23,21 @@ decreases-call l = 8 * l.e.0 + 2
 
 abbrev pub decreases-arguments : goal.decreases-arguments
 decreases-arguments l = 8 * l.e.0 + 1
+
+abbrev pub decreases-in_order : goal.decreases-in_order
+decreases-in_order l = 8 * l.e.0 + 5
+
+abbrev pub decreases-in_turn : goal.decreases-in_turn
+decreases-in_turn l = 8 * l.e.0 + 4
+
+abbrev pub decreases-first_block : goal.decreases-first_block
+decreases-first_block l = 8 * l.e.0 + 3
+
+abbrev pub decreases-due_parts : goal.decreases-due_parts
+decreases-due_parts l = 8 * l.e.0 + 2
+
+abbrev pub decreases-next_part : goal.decreases-next_part
+decreases-next_part l = 8 * l.e.0 + 1
 
 abbrev pub decreases-together : goal.decreases-together
 decreases-together l = 8 * l.e.0 + 2
@@ -51,7 +68,6 @@ abbrev pub invariant-bind_all-loop-name : goal.invariant-bind_all-loop-name
 invariant-bind_all-loop-name l = record {
   so_far : AreBound l.p l.fn.e.0 l.env (take l.name-index l.binds) l.fn.frame l.frame l.fn.heap l.heap;
   below : BindsBelow l.fn.e.0 (drop l.name-index l.binds);
-  built : AreBindsBuilt l.p (drop l.name-index l.binds);
 }
 
 abbrev pub invariant-arguments-loop-i : goal.invariant-arguments-loop-i
@@ -65,5 +81,14 @@ invariant-each_part-loop-k l = record {
   so_far : PartsSoFar l.p l.fn.e.0 l.env (names_in l.fn.frame) l.parts l.k l.fn.heap l.heap l.sounds.items;
   count : length l.sounds.items ≡ l.k;
   room : vec_capacity l.sounds ≡ vec_capacity l.fn.sounds;
+  same : l.frame ≡ l.fn.frame;
+}
+
+abbrev pub invariant-due_parts-loop-k : goal.invariant-due_parts-loop-k
+invariant-due_parts-loop-k l = record {
+  so_far : AreNext l.p l.fn.e.0 l.env (names_in l.fn.frame) l.parts l.fn.sounds.items l.fn.heap l.heap l.sounds.items;
+  count : l.k ≡ length l.sounds.items;
+  few : length l.sounds.items ≤ count_in l.parts;
+  last : l.last ≡ last_stop_of 0 l.sounds.items;
   same : l.frame ≡ l.fn.frame;
 }
