@@ -99,16 +99,16 @@ module _ (code : Code) (ordered : IsOrdered code) (free : KeepsFree code) (high 
       so_far : SoFar code old mid u first_left
       so_far = under.so first_left first_ranked
 
-      pub mid_laws : HeapLaws mid
+      mid_laws : HeapLaws mid
       mid_laws = so_far.wants.laws
 
-      pub mid_settled : IsSettled mid
+      mid_settled : IsSettled mid
       mid_settled = so_far.wants.settled
 
       here : node_at mid u ≡ Some x
       here = so_far.wants.same ∙ there
 
-      pub mid_ready : IsReady code old → IsReady code mid
+      mid_ready : IsReady code old → IsReady code mid
       mid_ready ready = record { parts = so_far.wants.parts ready.parts; fits = so_far.wants.fits ready.fits }
 
       same_pool : mid.pool ≡ old.pool
@@ -127,15 +127,16 @@ module _ (code : Code) (ordered : IsOrdered code) (free : KeepsFree code) (high 
       still_settled = and_some (node_at mid u) (λ x. IsSettledUnit mid.block x) x here (mid_settled u x here)
 
       module _ (v : ℕ) (e : want_of mid u ≡ Some v) where
-        pub next_open : IsSomeAnd (node_at mid v) (λ x. IsTrue (is_open mid.block x))
-        next_open = walks.next_open mid mid_laws u v x here e
-
-        -- what u wants stands lower
-        pub next_lower : tower (height_of code) mid v < tower (height_of code) old u
+        -- it stands lower
+        next_lower : tower (height_of code) mid v < tower (height_of code) old u
         next_lower =
             let below = so_far.wants.below (tower (height_of code) old) (tower_ranks (height_of code) old laws) in
             let falls = below.ranks.falls u v (wanted_uses mid u v x here (wanted mid u v x here e)) in
             omega (arith, falls, tower_lowest (height_of code) mid below.later below.ranks v, (below.same u x there (omega arith)).1)
+
+        -- what a walk of it asks
+        pub next_asks : (t : ℕ) → tower (height_of code) old u ≡ t → IsReady code old → (tower (height_of code) mid v < t) × HeapLaws mid × IsSomeAnd (node_at mid v) (λ x. IsTrue (is_open mid.block x)) × IsSettled mid × IsReady code mid
+        next_asks t is ready = (subst (λ n. tower (height_of code) mid v < n) is next_lower, mid_laws, walks.next_open mid mid_laws u v x here e, mid_settled, mid_ready ready)
 
         next_there : IsSome (node_at mid v)
         next_there = let y = walks.next_there mid mid_laws u v x here e in subst IsSome (sym y.1) refl

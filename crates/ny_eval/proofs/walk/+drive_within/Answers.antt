@@ -1,10 +1,8 @@
-use Rattle.std.proofs.Common.{◌<◌, true, ap, sym, subst}
-use Rattle.ny_check.specs.Heights.{height_of}
+use Rattle.std.proofs.Common.{true, ap, sym}
 use Rattle.ny_heap.specs.Heap.{HeapState}
 use Rattle.ny_hands.specs.declared.branch.Branch.{Branch}
 use Rattle.ny_hands.proofs.OptionLemmas.{some_and}
-use Rattle.ny_eval.proofs.TowerLemmas.{tower}
-use Rattle.ny_eval.proofs.DrivenLemmas.{turn_of, underway_none, mid_laws, mid_settled, mid_ready, same_size, still_open, still_settled, next_open, next_lower, underway_more, less_missing, stops_below, stops_here, filled_size, filled_there, filled_settled, filled_ready, ends, lacks_here}
+use Rattle.ny_eval.proofs.DrivenLemmas.{turn_of, underway_none, same_size, still_open, still_settled, next_asks, underway_more, less_missing, stops_below, stops_here, filled_size, filled_there, filled_settled, filled_ready, ends, lacks_here}
 use Rattle.ny_eval.proofs.walk.+drive_within.Goals as goal
 
 pub loop-v-init : goal.loop-v-init
@@ -19,7 +17,8 @@ want_from-requires t c =
 pub drive_within-requires : goal.drive_within-requires
 drive_within-requires t c =
     let x = some_and _ _ c.requires.open in
-    (subst (λ n. tower (height_of c.args.p.now) c.loop-v.heap c.in-Some.v.unit.0.0 < n) c.decreases (next_lower c.args.p.now c.program_laws.ensures.ordered c.program_laws.ensures.free c.height_law.ensures.tall c.args.heap.now c.args.u.0.0 c.requires.laws x.0 x.1 c.loop-v.heap c.loop-v.place c.loop-v.invariant c.in-Some.v.unit.0.0 (sym c.in-Some.ensures.first)), (mid_laws c.args.p.now c.program_laws.ensures.ordered c.program_laws.ensures.free c.height_law.ensures.tall c.args.heap.now c.args.u.0.0 c.requires.laws x.0 x.1 c.loop-v.heap c.loop-v.place c.loop-v.invariant, (next_open c.args.p.now c.program_laws.ensures.ordered c.program_laws.ensures.free c.height_law.ensures.tall c.args.heap.now c.args.u.0.0 c.requires.laws x.0 x.1 c.loop-v.heap c.loop-v.place c.loop-v.invariant c.in-Some.v.unit.0.0 (sym c.in-Some.ensures.first), (mid_settled c.args.p.now c.program_laws.ensures.ordered c.program_laws.ensures.free c.height_law.ensures.tall c.args.heap.now c.args.u.0.0 c.requires.laws x.0 x.1 c.loop-v.heap c.loop-v.place c.loop-v.invariant, mid_ready c.args.p.now c.program_laws.ensures.ordered c.program_laws.ensures.free c.height_law.ensures.tall c.args.heap.now c.args.u.0.0 c.requires.laws x.0 x.1 c.loop-v.heap c.loop-v.place c.loop-v.invariant c.requires.ready))))
+    let asks = next_asks c.args.p.now c.program_laws.ensures.ordered c.program_laws.ensures.free c.height_law.ensures.tall c.args.heap.now c.args.u.0.0 c.requires.laws x.0 x.1 c.loop-v.heap c.loop-v.place c.loop-v.invariant c.in-Some.v.unit.0.0 (sym c.in-Some.ensures.first) t c.decreases c.requires.ready in
+    (asks.0, (asks.1, (asks.2, (asks.3, asks.4))))
 
 pub loop-v-smaller : goal.loop-v-smaller
 loop-v-smaller t c =
