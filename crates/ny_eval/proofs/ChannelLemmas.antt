@@ -1,7 +1,7 @@
 -- A channel that was just made is played from its first sample on.
-use Rattle.std.proofs.Common.{◌≡◌, ℕ, zero, suc, ◌+◌, ◌*◌, ◌<◌, ◌≤◌, ◌==◌, Bool, true, false, if◌then◌else◌, List, [], ◌∷◌, ◌++◌, map, length, sum, slice_index, Option, None, Some, refl, sym, ap, subst, ◌∙◌, arith}
+use Rattle.std.proofs.Common.{◌≡◌, inl, inr, ℕ, zero, suc, ◌+◌, ◌*◌, ◌<◌, ◌≤◌, ◌==◌, Bool, true, false, if◌then◌else◌, List, [], ◌∷◌, ◌++◌, map, length, sum, slice_index, Option, None, Some, refl, sym, ap, subst, ◌∙◌, arith}
 use Rattle.std.specs.Prelude.{nat_lt, ◌&&◌, zip}
-use Rattle.std.proofs.lemmas.Bool.{eqb-true}
+use Rattle.std.proofs.lemmas.Bool.{eqb-true, cases_eq}
 use Rattle.std.specs.Option.{option_map_or}
 use Rattle.ny_num.specs.declared.timing.Timing.{Timing}
 use Rattle.ny_num.specs.declared.rate.Rate.{Rate}
@@ -25,30 +25,41 @@ use Rattle.ny_check.proofs.MeaningEquation.{meaning-is}
 use Rattle.ny_heap.specs.Heap.{Channel, Node, HeapState, node_at, list_of}
 use Rattle.ny_heap.specs.Means.{Parts, Whole, Means, heard, input_sound, parts_from, all_inputs, stop_after, unit_value}
 use Rattle.ny_heap.specs.Reach.{HeapLaws}
-use Rattle.ny_heap.specs.Steps.{AreHeld, IsMixOf, Makes, MakesMeaning, new_node, reader_of, sounds_of}
+use Rattle.ny_heap.specs.Steps.{AreHeld, IsMixOf, IsSettledUnit, Makes, MakesMeaning, new_node, reader_of, sounds_of}
 use Rattle.ny_heap.specs.declared.sound.Sound.{Sound}
 use Rattle.ny_hands.specs.declared.branch.Branch.{Branch}
 use Rattle.ny_hands.specs.Calls.{MakesUnit, Brings}
 use Rattle.ny_hands.specs.Frames.{Names, part_is, sound_at}
-use Rattle.ny_hands.specs.Hands.{marks_at, mark_in, item, Hand, Comes}
-use Rattle.ny_hands.proofs.OptionLemmas.{none_some, some_same}
+use Rattle.ny_hands.specs.Hands.{marks_at, mark_in, item, Hand, Comes, IsLike}
+use Rattle.ny_hands.proofs.OptionLemmas.{none_some, some_same, same_at}
 use Rattle.ny_hands.proofs.HeapLemmas.{Length, Empty, Long, length_of}
 use Rattle.ny_hands.proofs.BeforeLemmas.{some_mark}
 use Rattle.ny_hands.proofs.HandLemmas.{are_held, marks_there}
+use Rattle.ny_hands.proofs.MarkLemmas.{spent_like}
 use Rattle.ny_hands.proofs.SoundLemmas.{heard_is}
 use Rattle.ny_hands.proofs.ComingLemmas.{comes_made, comes_brought, timing_begin}
 use Rattle.ny_trace.specs.Evaluates.{Evaluates}
 use Rattle.ny_trace.specs.Heights.{Ranks, Stands}
-use Rattle.ny_trace.proofs.HeightLemmas.{step_made, step_brought}
-use Rattle.ny_eval.specs.Below.{IsSettled}
+use Rattle.ny_trace.specs.Laws.{KeepsFree}
+use Rattle.ny_trace.specs.Settled.{SettledBut}
+use Rattle.ny_trace.proofs.EvaluationLemmas.{evaluates_lawful}
+use Rattle.ny_trace.proofs.RisingEvaluationLemmas.{evaluates_rising}
+use Rattle.ny_trace.proofs.SettlingLemmas.{evaluates_settling, settled_brought}
+use Rattle.ny_trace.proofs.HeightLemmas.{step_made, step_brought, from_trimmed}
+use Rattle.ny_walk.specs.Below.{IsSettled}
+use Rattle.ny_walk.proofs.BelowLemmas.{user_there}
+use Rattle.ny_walk.proofs.PartsLemmas.{evaluates_parts}
+use Rattle.ny_walk.proofs.PartsStepLemmas.{parts_plain, parts_brought}
+use Rattle.ny_walk.proofs.FitLemmas.{evaluates_fit}
+use Rattle.ny_walk.proofs.FitStepLemmas.{fit_plain, fit_brought}
 use Rattle.ny_eval.specs.Built.{built_node, built, is_built}
 use Rattle.ny_check.specs.Heights.{height_of as height_of_expression, IsTall as LeavesRoom}
 use Rattle.ny_eval.specs.Opened.{IsEmpty, AreOpened, height_of}
+use Rattle.ny_eval.specs.Ready.{IsReady}
 use Rattle.ny_eval.specs.Playing.{IsHeard, IsPulled, IsPlaying}
 use Rattle.ny_eval.proofs.AnswerLemmas.{all_one}
-use Rattle.ny_eval.proofs.BelowLemmas.{user_there}
 use Rattle.ny_eval.proofs.BuiltLemmas.{not_built, both_true, more_true, binds_more_true, part_built, built_at}
-use Rattle.ny_eval.proofs.PlayedLemmas.{played_lawful, heights_enough, played_rising, played_quiet, settled_made, settled_brought}
+use Rattle.ny_eval.proofs.ProgramLemmas.{heights_enough}
 
 -- ---- the unit
 
@@ -119,17 +130,6 @@ played_one code ordered (suc turns) n env bound less inside builds =
     (part.0, ap (λ (g : Plays). g env names) (below-at n m none (played code) part.0) ∙ played_one code ordered turns m env names (omega (arith, part.0, less)) (omega (arith, part.0, inside)) part.1))
     (node_in code n) (ordered.each n inside) refl (built_at code n (node_in code n) refl builds)
 
--- ---- where nothing waits, it does not matter what the parts that wait are
-
-means_any : {B : Type 0} (p q : Parts B) (h : HeapState B) (w : Whole) → IsSettled h → Means p h w → Means q h w
-means_any {B} p q h w settled means v x at =
-    let m = means v x at in
-    record { len = m.len; owed = m.owed; kept = m.kept; rest = λ k from within. m.rest k from within ∙ ap (λ ss. unit_value x.kind x.timing x.memory (x.timing.start + x.filled * h.block) ss (x.timing.start + k)) (same (settled v x at).1) }
-  where
-    same : x.waiting ≡ [] → all_inputs p w v x ≡ all_inputs q w v x
-    same none = ap (λ ss. map (input_sound w.samples) x.inputs ++ (map Some (w.owed v) ++ map Some ss))
-        (ap (parts_from p w.samples x.timing.rate (stop_after x.last_stop (w.owed v))) none ∙ sym (ap (parts_from q w.samples x.timing.rate (stop_after x.last_stop (w.owed v))) none))
-
 -- ---- a heap without units
 
 no_lists : Whole
@@ -141,6 +141,12 @@ module _ (old : HeapState Branch) (empty : IsEmpty old) where
 
   empty_settled : IsSettled old
   empty_settled v x at = absurd (none_some (node_at old v) x (empty.none v) at)
+
+  empty_ready : (code : Code) → IsReady code old
+  empty_ready code = record {
+    parts = λ v x at. absurd (none_some (node_at old v) x (empty.none v) at);
+    fits = λ v x at. absurd (none_some (node_at old v) x (empty.none v) at);
+  }
 
   empty_ranks : (tall : ℕ → ℕ) → Ranks tall old (λ v. 0)
   empty_ranks tall = record {
@@ -168,14 +174,37 @@ module _ (old : HeapState Branch) (empty : IsEmpty old) where
 
 -- ---- the channel
 
+-- nothing waits for the channel's unit
+made_settled : (mid new : HeapState Branch) (t : Timing) (a s : Sound) → MakesUnit mid new Channel t (a ∷ []) [] (a ∷ []) s → IsSettled mid → IsSettled new
+made_settled mid new t a s made all = by_length (length_of t)
+  where
+    like : (y z : Node Branch) (small large : ℕ) → small ≡ large → IsLike y z → IsSettledUnit large y → IsSettledUnit small z
+    like y z small large same is one = subst (λ (q : Node Branch). IsSettledUnit small q) (sym is) (subst (λ n. IsSettledUnit n y) (sym same) one)
+
+    by_length : Length t → IsSettled new
+    by_length (Empty e f) = λ v y at.
+        let trimmed = made.makes.none e in
+        let x = from_trimmed mid new (a ∷ []) trimmed v y at in
+        like x.0 y new.block mid.block (trimmed.size.block ∙ (spent_like mid (a ∷ [])).counts.block) x.2 (all v x.0 x.1)
+    by_length (Long e f) = λ v y at. elim (cases_eq v made.makes.node) [
+      | inl same ↦
+          let adds = made.makes.unit e in
+          let is : new_node Channel t (a ∷ []) [] ≡ y = same_at (node_at new made.makes.node) (new_node Channel t (a ∷ []) []) y adds.after (ap (node_at new) (sym same) ∙ at) in
+          subst (λ (q : Node Branch). IsSettledUnit new.block q) is (refl, inl refl)
+      | inr other ↦
+          let adds = made.makes.unit e in
+          let x = (spent_like mid (a ∷ [])).from v y (sym (adds.others v other) ∙ at) in
+          like x.0 y new.block mid.block (adds.size.block ∙ (spent_like mid (a ∷ [])).counts.block) x.2 (all v x.0 x.1)
+    ]
+
 len_of : (t : Timing) (m : sounds.Sound) → timing_of m ≡ t → t.len ≡ length m.samples
 unfolding timing_of
 len_of t m is = sym (ap (λ (u : Timing). u.len) is)
 
 -- over what is played, which comes to a heap without units and is brought to the rate
-module _ (code : Code) (ordered : IsOrdered code) (high : LeavesRoom code (height_of_expression code)) (rate : Rate) (e : ℕ) (env : Env) (old part_heap mid new : HeapState Branch) (p a s : Sound) (t : Timing) (empty : IsEmpty old) (inside : e < length code.nodes) (builds : built code e ≡ true) (evaluates : Evaluates code (e + 1) e env [] old part_heap p) (brings : Brings part_heap mid rate p a) where
+module _ (code : Code) (ordered : IsOrdered code) (free : KeepsFree code) (high : LeavesRoom code (height_of_expression code)) (rate : Rate) (e : ℕ) (env : Env) (old part_heap mid new : HeapState Branch) (p a s : Sound) (t : Timing) (empty : IsEmpty old) (inside : e < length code.nodes) (evaluates : Evaluates code (e + 1) e env [] old part_heap p) (brings : Brings part_heap mid rate p a) where
   part_comes : Comes (part_is code) old part_heap (item p (λ w. meaning code e env []) ∷ [])
-  part_comes = played_lawful code ordered (e + 1) e env [] old part_heap p (builds, evaluates) inside empty.laws tt
+  part_comes = evaluates_lawful code ordered free (e + 1) e env [] old part_heap p evaluates inside empty.laws tt
 
   brought_comes : Comes (part_is code) old mid (item a (λ w. resampled rate (meaning code e env [])) ∷ [])
   brought_comes = comes_brought (part_is code) old part_heap mid rate p a (λ w. meaning code e env []) [] empty.laws part_comes brings
@@ -196,11 +225,22 @@ module _ (code : Code) (ordered : IsOrdered code) (high : LeavesRoom code (heigh
     channel_hand : Hand old new (s ∷ [])
     channel_hand = channel_comes.hand
 
+    brought_settled : SettledBut (λ v. false) mid
+    brought_settled = settled_brought (λ v. false) part_heap mid rate p a brings (evaluates_settling code (e + 1) e env [] old part_heap p evaluates (λ v. false) (λ v x at apart. empty_settled old empty v x at))
+
     channel_settled : IsSettled new
-    channel_settled = settled_made mid new Channel t (a ∷ []) (a ∷ []) s made (settled_brought part_heap mid rate p a brings (played_quiet code (e + 1) e env [] old part_heap p (builds, evaluates) (empty_settled old empty)))
+    channel_settled = made_settled mid new t a s made (λ v x at. brought_settled v x at refl)
+
+    channel_ready : IsReady code new
+    channel_ready =
+        let ready = empty_ready old empty code in
+        record {
+          parts = parts_plain code mid new Channel t (a ∷ []) (a ∷ []) s made (parts_brought code part_heap mid rate p a brings (evaluates_parts code ordered (e + 1) e env [] old part_heap p evaluates inside ready.parts));
+          fits = fit_plain code mid new Channel t (a ∷ []) (a ∷ []) s made (fit_brought code part_heap mid rate p a brings (evaluates_fit code ordered free (e + 1) e env [] old part_heap p evaluates inside ready.fits));
+        }
 
     part_stands : Stands (height_of_expression code) old part_heap (λ v. 0) (0 + height_of_expression code e) (p ∷ [])
-    part_stands = played_rising code ordered (height_of_expression code) (heights_enough code (height_of_expression code) high) (e + 1) e env [] old part_heap p (builds, evaluates) inside empty.laws tt (λ v. 0) 0 (empty_ranks old empty (height_of_expression code)) tt
+    part_stands = evaluates_rising code ordered free (height_of_expression code) (heights_enough code (height_of_expression code) high) (e + 1) e env [] old part_heap p evaluates inside empty.laws tt (λ v. 0) 0 (empty_ranks old empty (height_of_expression code)) tt
 
     brought_stands : Stands (height_of_expression code) part_heap mid part_stands.later (0 + height_of_expression code e + 1) (a ∷ [])
     brought_stands = step_brought (height_of_expression code) part_heap mid rate p a part_stands.later (0 + height_of_expression code e) part_comes.hand.laws part_comes.hand.begin.0 part_stands.ranks part_stands.in_hand brings
@@ -212,17 +252,17 @@ module _ (code : Code) (ordered : IsOrdered code) (high : LeavesRoom code (heigh
     channel_later : (w : Whole) → Means (part_is code) old w → (l : Whole) × Means (part_is code) new l × (sound_at l s ≡ mixes.channel (resampled rate (meaning code e env [])))
     channel_later w means = let l = channel_comes.means w means in (l.0.later, l.0.means, l.1.0)
 
-    channel_heard : (part : Parts Branch) → IsHeard part new s (mixes.channel (resampled rate (meaning code e env []))).samples
-    channel_heard part =
+    channel_heard : IsHeard (part_is code) new s (mixes.channel (resampled rate (meaning code e env []))).samples
+    channel_heard =
         let l = channel_later no_lists (empty_means old empty (part_is code) no_lists) in
-        record { whole = l.0; means = means_any (part_is code) part new l.0 channel_settled l.1; samples = ap (λ (x : sounds.Sound). x.samples) l.2 }
+        record { whole = l.0; means = l.1; samples = ap (λ (x : sounds.Sound). x.samples) l.2 }
 
     channel_when : timing_of (mixes.channel (resampled rate (meaning code e env []))) ≡ s.timing
     channel_when =
         let l = channel_later no_lists (empty_means old empty (part_is code) no_lists) in
         sym (ap timing_of l.2) ∙ timing_begin (part_is code) new l.0 s l.1 channel_hand.begin.0
 
-    channel_pulled : (left n : ℕ) → 0 + height_of_expression code e + 1 + 1 ≤ left → list_of s ≡ Some n → IsPulled new s 0 left n
+    channel_pulled : (left n : ℕ) → 0 + height_of_expression code e + 1 + 1 ≤ left → list_of s ≡ Some n → IsPulled (height_of_expression code) new s 0 left n
     channel_pulled left n low is = by_length (length_of t)
       where
         list_none : nat_lt 0 t.len ≡ false → list_of s ≡ None
@@ -231,7 +271,7 @@ module _ (code : Code) (ordered : IsOrdered code) (high : LeavesRoom code (heigh
         list_some : nat_lt 0 t.len ≡ true → list_of s ≡ Some made.makes.node
         list_some q = made.makes.result.list ∙ ap (λ b. if b then Some made.makes.node else None) q
 
-        by_length : Length t → IsPulled new s 0 left n
+        by_length : Length t → IsPulled (height_of_expression code) new s 0 left n
         by_length (Empty q f) = absurd (none_some (list_of s) n (list_none f) is)
         by_length (Long q f) =
             let same : made.makes.node ≡ n = some_same made.makes.node n (sym (list_some f) ∙ is) in
@@ -242,13 +282,14 @@ module _ (code : Code) (ordered : IsOrdered code) (high : LeavesRoom code (heigh
               shown = ap (λ (u : Timing). u.len) (sym made.makes.result.timing);
               done = refl;
               only = refl;
-              ranked = record { rank = channel_stands.later; falls = channel_stands.ranks.falls; within = omega (arith, under, low) };
+              ranked = record { rank = channel_stands.later; ranks = channel_stands.ranks; within = omega (arith, under, low) };
             }
 
-    pub channel_plays : (left : ℕ) → 0 + height_of_expression code e + 1 + 1 ≤ left → IsPlaying new s (mixes.channel (resampled rate (meaning code e env []))).samples 0 0 left
+    pub channel_plays : (left : ℕ) → 0 + height_of_expression code e + 1 + 1 ≤ left → IsPlaying code new s (mixes.channel (resampled rate (meaning code e env []))).samples 0 0 left
     channel_plays left low = record {
       laws = channel_hand.laws;
       settled = channel_settled;
+      ready = channel_ready;
       held = (are_held old new (s ∷ []) [] channel_hand).1;
       len = len_of s.timing (mixes.channel (resampled rate (meaning code e env []))) channel_when;
       place = made.makes.result.begins ∙ omega arith;
@@ -264,9 +305,9 @@ unfolding channels is_built
 one_channel code rate ordered builds = ap (map (channel_at rate)) (played_one code ordered (code.play.0 + 1) code.play.0 (opening rate) [] (omega arith) ordered.play builds)
 
 -- the channel of what a program plays, where there was no unit before
-pub channel_opened : (code : Code) → IsOrdered code → LeavesRoom code (height_of_expression code) → (rate : Rate) (env : Env) (e : ExprId) (names : Names) (old part_heap mid new : HeapState Branch) (p a s : Sound) (t : Timing) (xs : List Sound) → IsEmpty old → is_built code ≡ true → env ≡ opening rate → e ≡ code.play → names ≡ [] → Evaluates code (e.0 + 1) e.0 env names old part_heap p → Brings part_heap mid rate p a → t ≡ channel_timing a.timing → MakesUnit mid new Channel t (a ∷ []) [] (a ∷ []) s → xs ≡ s ∷ [] → AreOpened code rate new xs
+pub channel_opened : (code : Code) → IsOrdered code → KeepsFree code → LeavesRoom code (height_of_expression code) → (rate : Rate) (env : Env) (e : ExprId) (names : Names) (old part_heap mid new : HeapState Branch) (p a s : Sound) (t : Timing) (xs : List Sound) → IsEmpty old → is_built code ≡ true → env ≡ opening rate → e ≡ code.play → names ≡ [] → Evaluates code (e.0 + 1) e.0 env names old part_heap p → Brings part_heap mid rate p a → t ≡ channel_timing a.timing → MakesUnit mid new Channel t (a ∷ []) [] (a ∷ []) s → xs ≡ s ∷ [] → AreOpened code rate new xs
 unfolding is_built
-channel_opened code ordered high rate env e names old part_heap mid new p a s t xs empty builds at_env at_play none evaluates brings when made only =
+channel_opened code ordered free high rate env e names old part_heap mid new p a s t xs empty builds at_env at_play none evaluates brings when made only =
     let now : Evaluates code (code.play.0 + 1) code.play.0 (opening rate) [] old part_heap p =
     subst (λ (x : ExprId). Evaluates code (x.0 + 1) x.0 (opening rate) [] old part_heap p) at_play (subst (λ (q : Env). Evaluates code (e.0 + 1) e.0 q [] old part_heap p) at_env (subst (λ (ns : Names). Evaluates code (e.0 + 1) e.0 env ns old part_heap p) none evaluates)) in
     record {
@@ -274,6 +315,6 @@ channel_opened code ordered high rate env e names old part_heap mid new p a s t 
       one = one_channel code rate ordered builds;
       sound = s;
       only = only;
-      timing = sym (channel_when code ordered high rate code.play.0 (opening rate) old part_heap mid new p a s t empty ordered.play builds now brings when made);
-      plays = channel_plays code ordered high rate code.play.0 (opening rate) old part_heap mid new p a s t empty ordered.play builds now brings when made (height_of code) (omega arith);
+      timing = sym (channel_when code ordered free high rate code.play.0 (opening rate) old part_heap mid new p a s t empty ordered.play now brings when made);
+      plays = channel_plays code ordered free high rate code.play.0 (opening rate) old part_heap mid new p a s t empty ordered.play now brings when made (height_of code) (omega arith);
     }

@@ -1,10 +1,4 @@
 pub mod AnswerLemmas
-pub mod BelowLemmas
-pub mod WantLemmas
-pub mod FillLemmas
-pub mod DriveLemmas
-pub mod TwinLemmas
-pub mod WalkLemmas
 pub mod MarkLemmas
 pub mod BuiltLemmas
 pub mod UnitLemmas
@@ -16,6 +10,9 @@ pub mod EvalLemmas
 pub mod ChannelLemmas
 pub mod FrameLemmas
 pub mod RankLemmas
+pub mod TowerLemmas
+pub mod DrivenLemmas
+pub mod ReadyLemmas
 pub mod BodyLemmas
 pub mod CueLemmas
 pub mod MixingLemmas

@@ -7,7 +7,7 @@ use Rattle.std.proofs.lemmas.List.{get_or-set_same, get_or-set_other}
 use Rattle.ny_heap.specs.Heap.{Node, HeapState, node_at, stands_in}
 use Rattle.ny_heap.specs.Reach.{Uses, Read, Hold}
 use Rattle.ny_heap.specs.Steps.{changed, with_mark, without_mark}
-use Rattle.ny_eval.proofs.BelowLemmas.{same_at}
+use Rattle.ny_hands.proofs.OptionLemmas.{same_at}
 
 -- the same unit, but for who reads it from outside
 pub record Alike {B : Type 0} (x y : Node B) : Type 0 where

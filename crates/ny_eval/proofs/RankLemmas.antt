@@ -1,12 +1,10 @@
 -- Units stand no higher above one another than there are places for units.
-use Rattle.std.proofs.Common.{◌≡◌, ℕ, zero, suc, ◌+◌, ◌<◌, ◌≤◌, Bool, true, false, nat_lt, length, IsSomeAnd, IsTrue, refl, ap, arith}
+use Rattle.std.proofs.Common.{◌≡◌, ℕ, zero, suc, ◌+◌, ◌<◌, ◌≤◌, Bool, true, false, nat_lt, length, Some, refl, ap, arith}
 use Rattle.std.proofs.lemmas.Bool.{lt-ltb, ltb-true, ltb-false}
-use Rattle.ny_heap.specs.Heap.{HeapState, node_at, is_open}
-use Rattle.ny_heap.specs.Reach.{HeapLaws}
+use Rattle.ny_heap.specs.Heap.{Node, HeapState, node_at}
+use Rattle.ny_heap.specs.Reach.{Uses, HeapLaws}
 use Rattle.ny_hands.proofs.OptionLemmas.{some_there}
 use Rattle.ny_hands.proofs.HeapLemmas.{there_within}
-use Rattle.ny_eval.specs.Below.{IsRanked}
-use Rattle.ny_eval.proofs.BelowLemmas.{some_and}
 
 abbrev one_if : Bool → ℕ
 one_if true = 1
@@ -69,14 +67,17 @@ lower_within rank b (suc n) v within high = by (λ less. lower_within rank b n v
         omega (arith, not_lower (rank n) b (omega (arith, high, at)), lower_most rank b n)
 
 -- where a unit stands: how many stand lower
-pub ranked_below : {B : Type 0} (h : HeapState B) (u : ℕ) → HeapLaws h → IsSomeAnd (node_at h u) (λ x. IsTrue (is_open h.block x)) → IsRanked h u (length h.nodes)
-ranked_below {B} h u laws «open» =
-    let x = some_and _ _ «open» in
-    record {
-      rank = λ v. lower laws.rank (laws.rank v) (length h.nodes);
-      falls = λ a b uses.
-          let y = some_there (node_at h b) (laws.finds a b uses) in
-          let less = laws.falls a b uses in
-          lower_less laws.rank (laws.rank b) (laws.rank a) (length h.nodes) b (omega (arith, less)) (there_within h.nodes b y.0 y.1) (omega arith) less;
-      within = lower_within laws.rank (laws.rank u) (length h.nodes) u (there_within h.nodes u x.0 x.1) (omega arith);
-    }
+module _ {B : Type 0} (h : HeapState B) (laws : HeapLaws h) where
+  pub compressed : ℕ → ℕ
+  compressed v = lower laws.rank (laws.rank v) (length h.nodes)
+
+  pub compressed_falls : (a b : ℕ) → Uses h a b → compressed b < compressed a
+  unfolding compressed
+  compressed_falls a b uses =
+      let y = some_there (node_at h b) (laws.finds a b uses) in
+      let less = laws.falls a b uses in
+      lower_less laws.rank (laws.rank b) (laws.rank a) (length h.nodes) b (omega (arith, less)) (there_within h.nodes b y.0 y.1) (omega arith) less
+
+  pub compressed_within : (u : ℕ) (x : Node B) → node_at h u ≡ Some x → compressed u < length h.nodes
+  unfolding compressed
+  compressed_within u x there = lower_within laws.rank (laws.rank u) (length h.nodes) u (there_within h.nodes u x there) (omega arith)

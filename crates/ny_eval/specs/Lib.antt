@@ -1,11 +1,11 @@
-pub mod Below
 pub mod Built
 pub mod Framed
 pub mod Knots
 pub mod Mixing
 pub mod Opened
-pub mod Order
 pub mod Parts
+pub mod Ready
+pub mod Driven
 pub mod Playing
 pub mod Shapes
 pub mod Turns

@@ -9,6 +9,7 @@ use Rattle.ny_check.specs.Channels.{channels}
 use Rattle.ny_heap.specs.Heap.{HeapState, node_at}
 use Rattle.ny_heap.specs.Reach.{HeapLaws}
 use Rattle.ny_heap.specs.declared.sound.Sound.{Sound}
+use Rattle.ny_hands.specs.declared.branch.Branch.{Branch}
 use Rattle.ny_eval.specs.Playing.{IsPlaying}
 
 -- there is no unit
@@ -21,10 +22,10 @@ abbrev pub height_of : Code → ℕ
 height_of code = height_of_expression code code.play.0 + 2
 
 -- the one channel of a program, of which nothing was read and nothing is filled
-pub record AreOpened {B : Type 0} (code : Code) (rate : Rate) (h : HeapState B) (opened : List Sound) : Type 0 where
+pub record AreOpened (code : Code) (rate : Rate) (h : HeapState Branch) (opened : List Sound) : Type 0 where
   pub channel : sounds.Sound
   pub one : channels code rate ≡ channel ∷ []
   pub sound : Sound
   pub only : opened ≡ sound ∷ []
   pub timing : sound.timing ≡ timing_of channel
-  pub plays : IsPlaying h sound channel.samples 0 0 (height_of code)
+  pub plays : IsPlaying code h sound channel.samples 0 0 (height_of code)

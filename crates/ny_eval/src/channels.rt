@@ -5,6 +5,7 @@ ghost use Rattle.ny_eval.specs.Built.{is_built};
 ghost use Rattle.ny_eval.specs.Opened.{IsEmpty, AreOpened};
 
 use crate::expression::eval;
+use crate::laws::program_laws;
 use crate::unit::brought;
 use crate::values::no_names;
 use ny_check::Program;
@@ -32,7 +33,7 @@ pub fn eval_channels(
     ensures opened { IfOk result (λ sounds. AreOpened p.now rate heap.new sounds.items) }
     ensures refused { OnErr result (Hand heap.old heap.new []) }
 {
-    p.order_law();
+    program_laws(p);
     p.height_law();
     let mut parts = Vec::with_capacity(alloc, 1)?;
     let mut channels = Vec::with_capacity(alloc, 1)?;

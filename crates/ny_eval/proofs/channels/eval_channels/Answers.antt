@@ -1,18 +1,11 @@
-use Rattle.std.proofs.Common.{◌≡◌, [], ◌∷◌, ◌++◌, sym, ap, subst, true}
+use Rattle.std.proofs.Common.{[], ◌∷◌, ◌++◌, sym, ap, subst}
 use Rattle.ny_heap.specs.Heap.{Channel}
-use Rattle.ny_check.specs.declared.node.ExprId.{ExprId}
 use Rattle.ny_hands.proofs.HandLemmas.{hand_none, hand_made, are_held}
 use Rattle.ny_hands.proofs.SpendLemmas.{all_in_hand, all_given_up, gives_up_trimmed, hand_brought}
 use Rattle.ny_hands.specs.Frames.{Names, AllHeld}
-use Rattle.ny_eval.specs.Built.{built}
-use Rattle.ny_eval.proofs.AnswerLemmas.{listed_one}
-use Rattle.ny_eval.proofs.BuiltLemmas.{play_built}
+use Rattle.ny_eval.proofs.AnswerLemmas.{on_err, listed_one}
 use Rattle.ny_eval.proofs.ChannelLemmas.{channel_made, channel_unit, channel_opened, held_alone}
-use Rattle.ny_eval.proofs.DriveLemmas.{on_err}
 use Rattle.ny_eval.proofs.channels.eval_channels.Goals as goal
-
-pub eval-requires-clause-built : goal.eval-requires-clause-built
-eval-requires-clause-built c = subst (λ (x : ExprId). built c.args.p.now x.0 ≡ true) (sym c.play.ensures.value) (play_built c.args.p.now c.requires.built)
 
 pub eval-requires-clause-names : goal.eval-requires-clause-names
 eval-requires-clause-names c = subst (λ (ns : Names). AllHeld c.args.heap.now ns) (sym c.no_names-binds.ensures) tt
@@ -49,7 +42,7 @@ returns-clause-opened c =
     let only = listed_one c.in_ok-channels.channels.items c.push_reserved-2.new.self.items c.in_ok-make_mix.field-0 c.in_ok-channels.ensures.items c.push_reserved-2.ensures.items in
     let makes = rw c.new.ensures.items at c.in_ok-make_mix.ensures.makes in
     let meaning = rw c.new.ensures.items at c.in_ok-make_mix.ensures.meaning in
-    channel_opened c.args.p.now c.order_law.ensures.ordered c.height_law.ensures.tall c.args.rate c.in_ok-env.env c.play.result _ c.args.heap.now c.eval.new.heap c.brought.new.heap c.make_mix.new.self c.in_ok-part.part c.in_ok-sound.sound c.in_ok-make_mix.field-0 c.channel_timing-timing.result c.push_reserved-2.new.self.items
+    channel_opened c.args.p.now c.program_laws.ensures.ordered c.program_laws.ensures.free c.height_law.ensures.tall c.args.rate c.in_ok-env.env c.play.result _ c.args.heap.now c.eval.new.heap c.brought.new.heap c.make_mix.new.self c.in_ok-part.part c.in_ok-sound.sound c.in_ok-make_mix.field-0 c.channel_timing-timing.result c.push_reserved-2.new.self.items
     c.requires.empty c.requires.built c.in_ok-env.ensures c.play.ensures.value c.no_names-binds.ensures c.in_ok-part.ensures.evaluates c.in_ok-sound.ensures.brings c.channel_timing-timing.ensures.value
     (channel_unit c.brought.new.heap c.make_mix.new.self c.channel_timing-timing.result c.in_ok-sound.sound c.push_reserved.new.self.items c.in_ok-make_mix.field-0 list c.in_ok-make_mix.ensures.laws c.channel_timing-timing.ensures.bounds makes meaning)
     only

@@ -1,101 +1,91 @@
-use Rattle.std.proofs.Common.{rules, suc, ◌++◌, ◌∷◌, [], refl, sym, subst, ◌∙◌, IsTrue, inl, arith}
-use Rattle.ny_heap.specs.Heap.{is_open}
-use Rattle.ny_heap.specs.Steps.{IsSettledUnit}
-use Rattle.ny_eval.specs.Below.{ComesFrom, IsSettled, Below}
-use Rattle.ny_eval.proofs.BelowLemmas.{some_and, and_some}
-use Rattle.ny_eval.proofs.DriveLemmas.{comes_more, fill_comes, next_open, next_ranked, open_still, stops_below, stops_here, stops_apart, fills_then, wants_none, wants_more, wants_on, wants_less, settled_on, fill_drives, at_ok, at_ok_some, at_err, on_err, either}
+use Rattle.std.proofs.Common.{true, ap, sym}
+use Rattle.ny_heap.specs.Heap.{HeapState}
+use Rattle.ny_hands.specs.declared.branch.Branch.{Branch}
+use Rattle.ny_hands.proofs.OptionLemmas.{some_and}
+use Rattle.ny_eval.proofs.DrivenLemmas.{turn_of, underway_none, same_size, still_open, still_settled, next_asks, underway_more, less_missing, stops_below, stops_here, filled_size, filled_there, filled_settled, filled_ready, ends, lacks_here}
 use Rattle.ny_eval.proofs.walk.+drive_within.Goals as goal
 
 pub loop-v-init : goal.loop-v-init
-loop-v-init g t c = (wants_none _ _ _ c.requires.laws c.requires.settled c.requires.ranked, λ x at k less. absurd (omega (arith, less)), (0, [], (refl, refl)))
+loop-v-init t c =
+    underway_none c.args.p.now c.program_laws.ensures.ordered c.program_laws.ensures.free c.height_law.ensures.tall c.args.heap.now c.args.u.0.0 c.requires.laws c.requires.settled
 
 pub want_from-requires : goal.want_from-requires
-want_from-requires g t c =
+want_from-requires t c =
     let x = some_and _ _ c.requires.open in
-    let is_open_now : IsTrue (is_open c.loop-v.heap.block x.0) = open_still _ _ _ _ x.0 x.1 c.loop-v.invariant.0 x.2 in
-    record { «open» = and_some _ (λ x. IsTrue (is_open c.loop-v.heap.block x)) x.0 (c.loop-v.invariant.0.same ∙ x.1) is_open_now; before = c.loop-v.invariant.1 }
+    record { «open» = still_open c.args.p.now c.program_laws.ensures.ordered c.program_laws.ensures.free c.height_law.ensures.tall c.args.heap.now c.args.u.0.0 c.requires.laws x.0 x.1 c.loop-v.heap c.loop-v.place c.loop-v.invariant x.2; before = c.loop-v.invariant.none }
 
 pub drive_within-requires : goal.drive_within-requires
-drive_within-requires g t c κs within =
+drive_within-requires t c =
     let x = some_and _ _ c.requires.open in
-    let so = c.loop-v.invariant.0 in
-    let here = so.same ∙ x.1 in
-    let e = sym c.in-Some.ensures.first in
-    (omega (arith, so.ranked.within, c.decreases), (search rules, (so.laws, (next_open _ so.laws _ _ x.0 here e, (so.settled, next_ranked _ _ _ _ x.0 here e so.ranked)))))
+    let asks = next_asks c.args.p.now c.program_laws.ensures.ordered c.program_laws.ensures.free c.height_law.ensures.tall c.args.heap.now c.args.u.0.0 c.requires.laws x.0 x.1 c.loop-v.heap c.loop-v.place c.loop-v.invariant c.in-Some.v.unit.0.0 (sym c.in-Some.ensures.first) t c.decreases c.requires.ready in
+    (asks.0, (asks.1, (asks.2, (asks.3, asks.4))))
 
 pub loop-v-smaller : goal.loop-v-smaller
-loop-v-smaller g t c =
+loop-v-smaller t c =
     let x = some_and _ _ c.requires.open in
-    wants_less _ _ _ _ _ _ x.0 x.1 c.loop-v.invariant.0 (sym c.in-Some.ensures.first) c.in_ok-drive_within.ensures.drives
+    less_missing c.args.p.now c.program_laws.ensures.ordered c.program_laws.ensures.free c.height_law.ensures.tall c.args.heap.now c.args.u.0.0 c.requires.laws x.0 x.1 c.loop-v.heap c.loop-v.place c.loop-v.invariant c.in-Some.v.unit.0.0 (sym c.in-Some.ensures.first) c.drive_within.new.heap c.in-Ok.ensures.driven
 
 pub loop-v-preserved : goal.loop-v-preserved
-loop-v-preserved g t c =
+loop-v-preserved t c =
     let x = some_and _ _ c.requires.open in
-    let so = c.loop-v.invariant.2 in
-    let walk = c.in_ok-drive_within.ensures.order in (
-      wants_more _ _ _ _ _ _ x.0 x.1 c.loop-v.invariant.0 (sym c.in-Some.ensures.first) c.in_ok-drive_within.ensures.laws c.in_ok-drive_within.ensures.settled c.in_ok-drive_within.ensures.drives c.in_ok-drive_within.ensures.comes c.in_ok-drive_within.ensures.keeps,
-      wants_on _ _ _ _ _ _ _ x.0 x.1 c.loop-v.invariant.0 (sym c.in-Some.ensures.first) c.in_ok-drive_within.ensures.drives c.in-Some.ensures.before,
-      (suc so.0, so.1 ++ walk.0, (c.loop-v.heap, c.in-Some.v.unit.0.0, so.1, walk.0, so.2, sym c.in-Some.ensures.first, walk.1, refl)),
-    )
+    underway_more c.args.p.now c.program_laws.ensures.ordered c.program_laws.ensures.free c.height_law.ensures.tall c.args.heap.now c.args.u.0.0 c.requires.laws x.0 x.1 c.loop-v.heap c.loop-v.place c.loop-v.invariant c.in-Some.v.unit.0.0 (sym c.in-Some.ensures.first) c.drive_within.new.heap c.in-Ok.ensures.driven c.in-Some.v.place c.in-Some.ensures.before
 
-pub returns-in_err-drive_within-clause-stops : goal.returns-in_err-drive_within-clause-stops
-returns-in_err-drive_within-clause-stops g t c =
-    let so = c.loop-v.invariant.2 in
-    let stop = c.in_err-drive_within.ensures.stops in
-    on_err c.from_residual.result _ (so.1 ++ stop.0, stops_below c.args.heap.now c.loop-v.heap c.drive_within.new.heap c.args.u.0.0 c.in-Some.v.unit.0.0 c.args.left so.0 so.1 stop.0 c.requires.ranked so.2 (sym c.in-Some.ensures.first) stop.1)
-
-pub returns-in_err-drive_within-clause-keeps : goal.returns-in_err-drive_within-clause-keeps
-returns-in_err-drive_within-clause-keeps g t c = λ part w means. c.in_err-drive_within.ensures.keeps part w (c.loop-v.invariant.0.keeps part w means)
-
-pub returns-in_err-drive_within-clause-below : goal.returns-in_err-drive_within-clause-below
-returns-in_err-drive_within-clause-below g t c =
+pub returns-in-Err-clause-driven : goal.returns-in-Err-clause-driven
+returns-in-Err-clause-driven t c =
     let x = some_and _ _ c.requires.open in
-    on_err c.from_residual.result _ (stops_apart _ _ _ _ _ _ x.0 x.1 c.loop-v.invariant.0 (sym c.in-Some.ensures.first) c.in_err-drive_within.ensures.below)
+    stops_below c.args.p.now c.program_laws.ensures.ordered c.program_laws.ensures.free c.height_law.ensures.tall c.args.heap.now c.args.u.0.0 c.requires.laws x.0 x.1 c.loop-v.heap c.loop-v.place c.loop-v.invariant c.in-Some.v.unit.0.0 (sym c.in-Some.ensures.first) c.drive_within.new.heap c.in-Err.fault c.in-Err.ensures.driven
 
-pub returns-clause-below : goal.returns-clause-below
-returns-clause-below g t c =
-    at_err c.fill.result _ _ (λ failed same rank is_rank. subst (λ h. Below c.args.heap.now h rank (rank c.args.u.0.0)) (sym same) (c.loop-v.invariant.0.below rank is_rank)) c.fill.ensures.nothing
+pub returns-in-Err-clause-size : goal.returns-in-Err-clause-size
+returns-in-Err-clause-size t c =
+    let x = some_and _ _ c.requires.open in
+    same_size c.args.p.now c.program_laws.ensures.ordered c.program_laws.ensures.free c.height_law.ensures.tall c.args.heap.now c.args.u.0.0 c.requires.laws x.0 x.1 c.loop-v.heap c.loop-v.place c.loop-v.invariant c.drive_within.new.heap c.in-Err.ensures.size
 
 pub fill-requires-clause-open : goal.fill-requires-clause-open
-fill-requires-clause-open g t c =
+fill-requires-clause-open t c =
     let x = some_and _ _ c.requires.open in
-    and_some _ (λ x. IsTrue (is_open c.loop-v.heap.block x)) x.0 (c.loop-v.invariant.0.same ∙ x.1) (open_still _ _ _ _ x.0 x.1 c.loop-v.invariant.0 x.2)
+    still_open c.args.p.now c.program_laws.ensures.ordered c.program_laws.ensures.free c.height_law.ensures.tall c.args.heap.now c.args.u.0.0 c.requires.laws x.0 x.1 c.loop-v.heap c.loop-v.place c.loop-v.invariant x.2
 
 pub fill-requires-clause-settled : goal.fill-requires-clause-settled
-fill-requires-clause-settled g t c =
+fill-requires-clause-settled t c =
     let x = some_and _ _ c.requires.open in
-    let here = c.loop-v.invariant.0.same ∙ x.1 in
-    let none = c.loop-v.invariant.0.settled _ x.0 here in
-    and_some _ (λ x. IsSettledUnit c.loop-v.heap.block x) x.0 here (none.0, inl none.1)
+    still_settled c.args.p.now c.program_laws.ensures.ordered c.program_laws.ensures.free c.height_law.ensures.tall c.args.heap.now c.args.u.0.0 c.requires.laws x.0 x.1 c.loop-v.heap c.loop-v.place c.loop-v.invariant
 
-pub returns-clause-settled : goal.returns-clause-settled
-returns-clause-settled g t c =
-    either c.fill.result _ _ _ (λ fills. settled_on _ _ _ c.loop-v.invariant.0.settled fills) (λ same. subst (λ h. IsSettled h) (sym same) c.loop-v.invariant.0.settled) c.fill.ensures.fills c.fill.ensures.nothing
-
-pub returns-clause-order : goal.returns-clause-order
-returns-clause-order g t c =
-    let so = c.loop-v.invariant.2 in
-    at_ok_some c.fill.result _ _ _ c.fill.ensures.full.1 (λ room fills. (so.1 ++ c.args.u.0.0 ∷ [], fills_then c.args.heap.now c.loop-v.heap c.fill.new.self c.args.u.0.0 c.args.left so.0 so.1 c.requires.ranked so.2 (sym c.in_default.ensures.first) room fills c.fill.ensures.laws)) c.fill.ensures.fills
-
-pub returns-clause-drives : goal.returns-clause-drives
-returns-clause-drives g t c =
+pub reveal_due-requires-clause-there : goal.reveal_due-requires-clause-there
+reveal_due-requires-clause-there t c =
     let x = some_and _ _ c.requires.open in
-    at_ok c.fill.result _ _ (λ fills. fill_drives _ _ _ _ _ x.0 x.1 c.loop-v.invariant.0 fills) c.fill.ensures.fills
+    filled_there c.args.p.now c.program_laws.ensures.ordered c.program_laws.ensures.free c.height_law.ensures.tall c.args.heap.now c.args.u.0.0 c.requires.laws x.0 x.1 c.loop-v.heap c.loop-v.place c.loop-v.invariant c.fill.new.self (turn_of c.loop-v.heap c.fill.new.self c.args.u.0.0 (sym c.in_default.ensures.first) c.in-Ok-fill.ensures.full.1 c.in-Ok-fill.ensures.fills c.in-Ok-fill.ensures.laws c.in-Ok-fill.ensures.keeps) c.requires.settled
 
-pub returns-clause-stops : goal.returns-clause-stops
-returns-clause-stops g t c =
-    let so = c.loop-v.invariant.2 in
-    at_err c.fill.result _ _ (λ failed same. (so.1 ++ [], stops_here c.args.heap.now c.loop-v.heap c.fill.new.self c.args.u.0.0 c.args.left so.0 so.1 c.requires.ranked so.2 (sym c.in_default.ensures.first) (c.fill.ensures.full.0 failed) same)) c.fill.ensures.nothing
+pub reveal_due-requires-clause-ready : goal.reveal_due-requires-clause-ready
+reveal_due-requires-clause-ready t c =
+    let x = some_and _ _ c.requires.open in
+    filled_ready c.args.p.now c.program_laws.ensures.ordered c.program_laws.ensures.free c.height_law.ensures.tall c.args.heap.now c.args.u.0.0 c.requires.laws x.0 x.1 c.loop-v.heap c.loop-v.place c.loop-v.invariant c.fill.new.self (turn_of c.loop-v.heap c.fill.new.self c.args.u.0.0 (sym c.in_default.ensures.first) c.in-Ok-fill.ensures.full.1 c.in-Ok-fill.ensures.fills c.in-Ok-fill.ensures.laws c.in-Ok-fill.ensures.keeps) c.requires.settled c.requires.ready
 
-pub returns-clause-keeps : goal.returns-clause-keeps
-returns-clause-keeps g t c = λ part w means. c.fill.ensures.keeps part w (c.loop-v.invariant.0.keeps part w means)
+pub returns-in-Ok-reveal_due-clause-driven : goal.returns-in-Ok-reveal_due-clause-driven
+returns-in-Ok-reveal_due-clause-driven t c =
+    let x = some_and _ _ c.requires.open in
+    ends c.args.p.now c.program_laws.ensures.ordered c.program_laws.ensures.free c.height_law.ensures.tall c.args.heap.now c.args.u.0.0 c.requires.laws x.0 x.1 c.loop-v.heap c.loop-v.place c.loop-v.invariant c.fill.new.self (turn_of c.loop-v.heap c.fill.new.self c.args.u.0.0 (sym c.in_default.ensures.first) c.in-Ok-fill.ensures.full.1 c.in-Ok-fill.ensures.fills c.in-Ok-fill.ensures.laws c.in-Ok-fill.ensures.keeps) c.reveal_due.new.heap c.in-Ok-reveal_due.ensures.reveals
 
-pub returns-in_err-drive_within-clause-comes : goal.returns-in_err-drive_within-clause-comes
-returns-in_err-drive_within-clause-comes g t c = comes_more c.args.heap.now c.loop-v.heap c.drive_within.new.heap c.loop-v.invariant.0.comes c.in_err-drive_within.ensures.comes
+pub returns-in-Ok-reveal_due-clause-size : goal.returns-in-Ok-reveal_due-clause-size
+returns-in-Ok-reveal_due-clause-size t c =
+    let x = some_and _ _ c.requires.open in
+    filled_size c.args.p.now c.program_laws.ensures.ordered c.program_laws.ensures.free c.height_law.ensures.tall c.args.heap.now c.args.u.0.0 c.requires.laws x.0 x.1 c.loop-v.heap c.loop-v.place c.loop-v.invariant c.fill.new.self (turn_of c.loop-v.heap c.fill.new.self c.args.u.0.0 (sym c.in_default.ensures.first) c.in-Ok-fill.ensures.full.1 c.in-Ok-fill.ensures.fills c.in-Ok-fill.ensures.laws c.in-Ok-fill.ensures.keeps) c.reveal_due.new.heap c.reveal_due.ensures.size
 
-pub returns-clause-comes : goal.returns-clause-comes
-returns-clause-comes g t c =
-    either c.fill.result _ _ _
-    (λ fills. comes_more c.args.heap.now c.loop-v.heap c.fill.new.self c.loop-v.invariant.0.comes (fill_comes c.loop-v.heap c.fill.new.self c.args.u.0.0 fills))
-    (λ same. subst (λ h. ComesFrom c.args.heap.now h) (sym same) c.loop-v.invariant.0.comes)
-    c.fill.ensures.fills c.fill.ensures.nothing
+pub returns-in-Err-reveal_due-clause-driven : goal.returns-in-Err-reveal_due-clause-driven
+returns-in-Err-reveal_due-clause-driven t c =
+    let x = some_and _ _ c.requires.open in
+    lacks_here c.args.p.now c.program_laws.ensures.ordered c.program_laws.ensures.free c.height_law.ensures.tall c.args.heap.now c.args.u.0.0 c.requires.laws x.0 x.1 c.loop-v.heap c.loop-v.place c.loop-v.invariant c.fill.new.self (turn_of c.loop-v.heap c.fill.new.self c.args.u.0.0 (sym c.in_default.ensures.first) c.in-Ok-fill.ensures.full.1 c.in-Ok-fill.ensures.fills c.in-Ok-fill.ensures.laws c.in-Ok-fill.ensures.keeps) c.in-Err-reveal_due.ensures.lacks
+
+pub returns-in-Err-reveal_due-clause-size : goal.returns-in-Err-reveal_due-clause-size
+returns-in-Err-reveal_due-clause-size t c =
+    let x = some_and _ _ c.requires.open in
+    filled_size c.args.p.now c.program_laws.ensures.ordered c.program_laws.ensures.free c.height_law.ensures.tall c.args.heap.now c.args.u.0.0 c.requires.laws x.0 x.1 c.loop-v.heap c.loop-v.place c.loop-v.invariant c.fill.new.self (turn_of c.loop-v.heap c.fill.new.self c.args.u.0.0 (sym c.in_default.ensures.first) c.in-Ok-fill.ensures.full.1 c.in-Ok-fill.ensures.fills c.in-Ok-fill.ensures.laws c.in-Ok-fill.ensures.keeps) c.reveal_due.new.heap c.reveal_due.ensures.size
+
+pub returns-in-Err-fill-clause-driven : goal.returns-in-Err-fill-clause-driven
+returns-in-Err-fill-clause-driven t c =
+    let x = some_and _ _ c.requires.open in
+    stops_here c.args.p.now c.program_laws.ensures.ordered c.program_laws.ensures.free c.height_law.ensures.tall c.args.heap.now c.args.u.0.0 c.requires.laws x.0 x.1 c.loop-v.heap c.loop-v.place c.loop-v.invariant c.fill.new.self (sym c.in_default.ensures.first) (c.in-Err-fill.ensures.full.0 (λ i. true)) c.in-Err-fill.ensures.nothing
+
+pub returns-in-Err-fill-clause-size : goal.returns-in-Err-fill-clause-size
+returns-in-Err-fill-clause-size t c =
+    let x = some_and _ _ c.requires.open in
+    same_size c.args.p.now c.program_laws.ensures.ordered c.program_laws.ensures.free c.height_law.ensures.tall c.args.heap.now c.args.u.0.0 c.requires.laws x.0 x.1 c.loop-v.heap c.loop-v.place c.loop-v.invariant c.fill.new.self (ap (λ (h : HeapState Branch). h.pool) c.in-Err-fill.ensures.nothing, ap (λ (h : HeapState Branch). h.block) c.in-Err-fill.ensures.nothing)
