@@ -9,19 +9,28 @@ use Rattle.std.specs.Option.{option_map_or}
 use Rattle.ny_heap.specs.Heap.{Node, HeapState, node_at, list_of, place_of, is_open, open_unit, blocks_of, stands_in, computed_of}
 use Rattle.ny_heap.specs.Means.{KeepsMeaning, sound_in}
 use Rattle.ny_heap.specs.Reach.{HeapLaws, IsReachable, IsTrimmed}
-use Rattle.ny_heap.specs.Steps.{IsCounted, IsHeldAt, IsHeldSound, Passes, changed, without_mark, without_sound, advanced, run_of, computed_in}
+use Rattle.ny_heap.specs.Steps.{IsCounted, IsHeldAt, IsHeldSound, IsSettledUnit, Passes, changed, without_mark, without_sound, advanced, run_of, computed_in}
 use Rattle.ny_heap.specs.declared.sound.Sound.{Sound}
 use Rattle.ny_num.specs.Sound.{IsTiming}
 use Rattle.ny_num.specs.Grid.{last_index}
 use Rattle.ny_num.specs.declared.rate.Rate.{Rate}
 use Rattle.ny_num.specs.declared.rate.Rate.TheVariants.{R2205, R4410, R8000, R11025, R16000, R22050, R32000, R44100, R48000}
-use Rattle.ny_eval.specs.Below.{ComesFrom, IsSettled, IsRank, IsRanked, Continues, Below, Drives}
+use Rattle.ny_check.specs.Code.{Code}
+use Rattle.ny_check.specs.Heights.{height_of}
+use Rattle.ny_hands.specs.Frames.{part_is}
+use Rattle.ny_hands.specs.Hands.{IsLike}
+use Rattle.ny_hands.specs.declared.branch.Branch.{Branch}
+use Rattle.ny_walk.specs.Below.{IsSettled, IsRanked, Continues, Walked, Stopped}
+use Rattle.ny_walk.specs.Heard.{HeardWhole, StaysHeard}
+use Rattle.ny_eval.specs.Ready.{IsReady}
 use Rattle.ny_eval.specs.Playing.{IsPulled, IsPlaying}
 use Rattle.ny_pull.specs.Inside.{IsOver}
-use Rattle.ny_eval.proofs.BelowLemmas.{some_same, same_at, and_some, held_above}
-use Rattle.ny_eval.proofs.WantLemmas.{short_is_open}
-use Rattle.ny_eval.proofs.FillLemmas.{reached_stays}
-use Rattle.ny_eval.proofs.MarkLemmas.{Alike, changed_same, changed_other, advanced_by, advanced_node, advanced_same, advanced_from, advanced_other, uses_alike, mark_counts, mark_set}
+use Rattle.ny_hands.proofs.OptionLemmas.{some_same, same_at, and_some}
+use Rattle.ny_hands.proofs.HeapLemmas.{reached_stays}
+use Rattle.ny_trace.proofs.HeightLemmas.{ranks_from}
+use Rattle.ny_walk.proofs.WantLemmas.{short_is_open}
+use Rattle.ny_eval.proofs.ReadyLemmas.{ready_on}
+use Rattle.ny_eval.proofs.MarkLemmas.{changed_same, changed_other, advanced_by, advanced_node, advanced_same, advanced_other, mark_counts, mark_set}
 
 -- ---- has it ended
 
@@ -46,10 +55,10 @@ closed_is_long block filled len some above = elim (cases_lt (filled * block) len
 pub counted : {B : Type 0} (h : HeapState B) (s : Sound) (n : ℕ) → IsHeldSound h s → list_of s ≡ Some n → IsCounted h s n
 counted h s n held e = subst (λ o. IsHeldAt h s o) e held.1
 
-pub ended_of : {B : Type 0} (h : HeapState B) (s : Sound) (xs : List ℤ) (pulls left : ℕ) → IsPlaying h s xs pulls pulls left → open_unit h (list_of s) ≡ None → length xs ≤ pulls * h.block
-ended_of {B} h s xs pulls left playing e = by_list (list_of s) refl
+pub ended_of : {code : Code} (h : HeapState Branch) (s : Sound) (xs : List ℤ) (pulls left : ℕ) → IsPlaying code h s xs pulls pulls left → open_unit h (list_of s) ≡ None → length xs ≤ pulls * h.block
+ended_of {code} h s xs pulls left playing e = by_list (list_of s) refl
   where
-    by_open : (n : ℕ) (p : IsPulled h s pulls left n) (b : Bool) → is_open h.block p.unit ≡ b → cond b (Some n) None ≡ None → length xs ≤ pulls * h.block
+    by_open : (n : ℕ) (p : IsPulled (height_of code) h s pulls left n) (b : Bool) → is_open h.block p.unit ≡ b → cond b (Some n) None ≡ None → length xs ≤ pulls * h.block
     by_open n p true is none = cc
     by_open n p false is none = elim (cases_le (blocks_of h.block p.unit.timing.len) p.unit.filled) [
       | inl long ↦
@@ -78,10 +87,10 @@ pub record Opens {B : Type 0} (h : HeapState B) (s : Sound) (xs : List ℤ) (pul
   pub short : pulls * h.block < length xs
   pub unit : IsSomeAnd (node_at h u) (λ x. IsTrue (is_open h.block x))
 
-pub open_of : {B : Type 0} (h : HeapState B) (s : Sound) (xs : List ℤ) (pulls left u : ℕ) → IsPlaying h s xs pulls pulls left → open_unit h (list_of s) ≡ Some u → Opens h s xs pulls u
-open_of {B} h s xs pulls left u playing e = by_list (list_of s) refl
+pub open_of : {code : Code} (h : HeapState Branch) (s : Sound) (xs : List ℤ) (pulls left u : ℕ) → IsPlaying code h s xs pulls pulls left → open_unit h (list_of s) ≡ Some u → Opens h s xs pulls u
+open_of {code} h s xs pulls left u playing e = by_list (list_of s) refl
   where
-    by_open : (n : ℕ) (p : IsPulled h s pulls left n) → list_of s ≡ Some n → (b : Bool) → is_open h.block p.unit ≡ b → cond b (Some n) None ≡ Some u → Opens h s xs pulls u
+    by_open : (n : ℕ) (p : IsPulled (height_of code) h s pulls left n) → list_of s ≡ Some n → (b : Bool) → is_open h.block p.unit ≡ b → cond b (Some n) None ≡ Some u → Opens h s xs pulls u
     by_open n p list false is found = cc
     by_open n p list true is found =
         let n_is : n ≡ u = some_same n u found in
@@ -105,82 +114,61 @@ open_of {B} h s xs pulls left u playing e = by_list (list_of s) refl
 -- ---- while it is filled
 
 -- the sound's unit goes on
-plays_on : {B : Type 0} (old new : HeapState B) (s : Sound) (xs : List ℤ) (pulls filled later left u : ℕ) (y : Node B) → IsPlaying old s xs pulls filled left → list_of s ≡ Some u → HeapLaws new → IsSettled new → new.block ≡ old.block → node_at new u ≡ Some y → ((x : Node B) → node_at old u ≡ Some x → Continues x y) → y.filled ≡ later → IsRanked new u left → ComesFrom old new → KeepsMeaning old new → IsPlaying new s xs pulls later left
-plays_on {B} old new s xs pulls filled later left u y playing list laws settled block there on done ranked comes keeps = record {
+plays_on : {code : Code} (old new : HeapState Branch) (s : Sound) (xs : List ℤ) (pulls filled later left u : ℕ) (y : Node Branch) → IsPlaying code old s xs pulls filled left → list_of s ≡ Some u → HeapLaws new → IsSettled new → IsReady code new → node_at new u ≡ Some y → ((x : Node Branch) → node_at old u ≡ Some x → Continues x y) → y.filled ≡ later → IsRanked (height_of code) new u left → StaysHeard code old new → IsPlaying code new s xs pulls later left
+plays_on {code} old new s xs pulls filled later left u y playing list laws settled ready there on done ranked hears = record {
   laws = laws;
   settled = settled;
-  held = (playing.held.0, subst (λ o. IsHeldAt new s o) (sym list) held_now);
+  ready = ready;
+  held = hears.sounds s playing.held;
   len = playing.len;
-  place = subst (λ b. place_of s ≡ min (pulls * b) (length xs)) (sym block) playing.place;
-  pulled = λ n is. subst (λ m. IsPulled new s later left m) (some_same u n (sym list ∙ is)) (record { unit = y; there = there; shown = ap (λ t. t.len) (on p.unit p.there).timing ∙ p.shown; done = done; only = (on p.unit p.there).outside ∙ p.only; ranked = ranked });
-  alone = λ v z at some. let x = comes v z at in playing.alone v x.0 x.1 (omega (arith, some, x.2));
-  heard = λ part.
-      let was = playing.heard part in
-      record { whole = was.whole; means = keeps part was.whole was.means; samples = was.samples };
+  place = subst (λ b. place_of s ≡ min (pulls * b) (length xs)) (sym hears.block) playing.place;
+  pulled = λ n is. subst (λ m. IsPulled (height_of code) new s later left m) (some_same u n (sym list ∙ is)) (record { unit = y; there = there; shown = ap (λ t. t.len) (on p.unit p.there).timing ∙ p.shown; done = done; only = (on p.unit p.there).outside ∙ p.only; ranked = ranked });
+  alone = λ v z at some. let x = hears.only v z at some in playing.alone v x.0 x.1 (omega (arith, some, x.2));
+  heard = record { whole = now.later; means = now.means; samples = same_list ∙ playing.heard.samples };
 }
   where
-    p : IsPulled old s filled left u
+    p : IsPulled (height_of code) old s filled left u
     p = playing.pulled u list
 
-    c : IsCounted old s u
-    c = counted old s u playing.held list
+    now : HeardWhole code old new playing.heard.whole
+    now = hears.means playing.heard.whole playing.heard.means
 
-    held_now : IsCounted new s u
-    held_now =
-        let go = on c.unit c.there in
-        let times = mul-le c.unit.filled old.block y.filled new.block go.filled (omega (arith, block)) in
-        record {
-          unit = y;
-          there = there;
-          some = c.some;
-          visible = omega (arith, c.visible, ap (λ t. t.len) go.timing);
-          place = omega (arith, c.place, times, ap (λ t. t.len) go.timing);
-          stands = omega (arith, c.stands, go.marks (stands_in new.block y.timing.len (place_of s)), ap (λ b. slice_index c.unit.outside (stands_in b y.timing.len (place_of s))) block, ap (λ t. slice_index c.unit.outside (stands_in old.block t.len (place_of s))) go.timing);
-        }
+    same_list : (sound_in now.later.samples (list_of s) s.timing).samples ≡ (sound_in playing.heard.whole.samples (list_of s) s.timing).samples
+    same_list =
+        let stays = now.extends u p.unit p.there (omega (arith, p.only)) in
+        ap (λ o. (sound_in now.later.samples o s.timing).samples) list
+        ∙ ap (λ ys. take s.timing.len ys) stays
+        ∙ sym (ap (λ o. (sound_in playing.heard.whole.samples o s.timing).samples) list)
 
 -- it has one block more
-pub driven : {B : Type 0} (old new : HeapState B) (s : Sound) (xs : List ℤ) (pulls left u : ℕ) → IsPlaying old s xs pulls pulls left → list_of s ≡ Some u → HeapLaws new → IsSettled new → ((rank : ℕ → ℕ) → IsRank old rank → Drives old new u rank) → ComesFrom old new → KeepsMeaning old new → IsPlaying new s xs pulls (pulls + 1) left
-driven {B} old new s xs pulls left u playing list laws settled drives comes keeps =
+pub driven : {code : Code} (old new : HeapState Branch) (s : Sound) (xs : List ℤ) (pulls left u : ℕ) → IsPlaying code old s xs pulls pulls left → list_of s ≡ Some u → Walked code (height_of code) old new u → StaysHeard code old new → IsReady code new → IsPlaying code new s xs pulls (pulls + 1) left
+driven old new s xs pulls left u playing list walked hears ready =
     let p = playing.pulled u list in
-    let d = drives p.ranked.rank p.ranked.falls in
-    let y = d.below.held u p.unit p.there (held_above old playing.laws p.ranked.rank p.ranked.falls u p.unit p.there) in
-    plays_on old new s xs pulls pulls (pulls + 1) left u y.0 playing list laws settled d.below.block y.1
+    let d = walked.drives p.ranked.rank p.ranked.ranks in
+    let y = d.below.held u p.unit p.there (inl (record { unit = p.unit; there = p.there; some = omega (arith, p.only) })) in
+    plays_on old new s xs pulls pulls (pulls + 1) left u y.0 playing list walked.laws walked.settled ready y.1
     (λ x there. subst (λ z. Continues z y.0) (same_at (node_at old u) p.unit x p.there there) y.3)
     (d.more p.unit y.0 p.there y.1 ∙ ap (λ f. f + 1) p.done)
-    (record { rank = d.below.later; falls = d.below.falls; within = omega (arith, p.ranked.within, y.2) })
-    comes
-    keeps
-
-pub driven_size : {B : Type 0} (old new : HeapState B) (s : Sound) (xs : List ℤ) (pulls left u : ℕ) → IsPlaying old s xs pulls pulls left → list_of s ≡ Some u → ((rank : ℕ → ℕ) → IsRank old rank → Drives old new u rank) → (new.pool ≡ old.pool) × (new.block ≡ old.block)
-driven_size old new s xs pulls left u playing list drives =
-    let p = playing.pulled u list in
-    let d = drives p.ranked.rank p.ranked.falls in
-    (d.below.pool, d.below.block)
+    (record { rank = d.below.later; ranks = d.below.ranks; within = omega (arith, p.ranked.within, y.2) })
+    hears
 
 -- no block was free
-pub stopped : {B : Type 0} (old new : HeapState B) (s : Sound) (xs : List ℤ) (pulls left u : ℕ) → IsPlaying old s xs pulls pulls left → list_of s ≡ Some u → HeapLaws new → IsSettled new → ((rank : ℕ → ℕ) → IsRank old rank → Below old new rank (rank u)) → ComesFrom old new → KeepsMeaning old new → IsPlaying new s xs pulls pulls left
-stopped {B} old new s xs pulls left u playing list laws settled below comes keeps =
+pub stopped : {code : Code} (old new : HeapState Branch) (s : Sound) (xs : List ℤ) (pulls left u : ℕ) → IsPlaying code old s xs pulls pulls left → list_of s ≡ Some u → Stopped code (height_of code) old new u → StaysHeard code old new → IsReady code new → IsPlaying code new s xs pulls pulls left
+stopped old new s xs pulls left u playing list stops hears ready =
     let p = playing.pulled u list in
-    let d = below p.ranked.rank p.ranked.falls in
+    let d = stops.below p.ranked.rank p.ranked.ranks in
     let y = d.same u p.unit p.there (omega arith) in
-    plays_on old new s xs pulls pulls pulls left u p.unit playing list laws settled d.block y.0
-    (λ x there. subst (λ z. Continues z p.unit) (same_at (node_at old u) p.unit x p.there there) (record { timing = refl; filled = omega arith; outside = refl; marks = λ j. refl }))
+    plays_on old new s xs pulls pulls pulls left u p.unit playing list stops.laws stops.settled ready y.0
+    (λ x there. subst (λ z. Continues z p.unit) (same_at (node_at old u) p.unit x p.there there) (record { timing = refl; filled = omega arith; outside = refl }))
     p.done
-    (record { rank = d.later; falls = d.falls; within = omega (arith, p.ranked.within, y.1) })
-    comes
-    keeps
-
-pub stopped_size : {B : Type 0} (old new : HeapState B) (s : Sound) (xs : List ℤ) (pulls left u : ℕ) → IsPlaying old s xs pulls pulls left → list_of s ≡ Some u → ((rank : ℕ → ℕ) → IsRank old rank → Below old new rank (rank u)) → (new.pool ≡ old.pool) × (new.block ≡ old.block)
-stopped_size old new s xs pulls left u playing list below =
-    let p = playing.pulled u list in
-    let d = below p.ranked.rank p.ranked.falls in
-    (d.pool, d.block)
+    (record { rank = d.later; ranks = d.ranks; within = omega (arith, p.ranked.within, y.1) })
+    hears
 
 -- and its unit is as open as it was
-pub stopped_open : {B : Type 0} (old new : HeapState B) (s : Sound) (xs : List ℤ) (pulls left u : ℕ) → IsPlaying old s xs pulls pulls left → list_of s ≡ Some u → ((rank : ℕ → ℕ) → IsRank old rank → Below old new rank (rank u)) → open_unit old (list_of s) ≡ Some u → open_unit new (list_of s) ≡ Some u
-stopped_open old new s xs pulls left u playing list below e =
+pub stopped_open : {code : Code} (old new : HeapState Branch) (s : Sound) (xs : List ℤ) (pulls left u : ℕ) → IsPlaying code old s xs pulls pulls left → list_of s ≡ Some u → Stopped code (height_of code) old new u → open_unit old (list_of s) ≡ Some u → open_unit new (list_of s) ≡ Some u
+stopped_open old new s xs pulls left u playing list stops e =
     let p = playing.pulled u list in
-    let d = below p.ranked.rank p.ranked.falls in
+    let d = stops.below p.ranked.rank p.ranked.ranks in
     let same : node_at new u ≡ node_at old u = (d.same u p.unit p.there (omega arith)).0 ∙ sym p.there in
     ap (open_unit new) list ∙ ((λ i. option_map_or (λ x. if is_open (d.block i) x then Some u else None) (same i) None) ∙ (sym (ap (open_unit old) list) ∙ e))
 
@@ -248,17 +236,26 @@ mark_more ns j within = from 0 ns j within
     from a (n ∷ ns) zero within = let turned : a + (n + 1) ≡ a + n + 1 = omega arith in ap (λ m. fold ◌+◌ m ns) turned ∙ fold_more (a + n) ns
     from a (n ∷ ns) (suc j) within = from (a + n) ns j (omega (arith, within))
 
+-- each unit is one that was there
+advanced_like : {B : Type 0} (h : HeapState B) (n a b : ℕ) (x : Node B) → node_at h n ≡ Some x → (v : ℕ) (y : Node B) → node_at (advanced_by h (Some n) (Some n) a b) v ≡ Some y → (z : Node B) × (node_at h v ≡ Some z) × IsLike z y
+advanced_like h n a b x e v y at = elim (cases_eq v n) [
+  | inl same ↦
+      let is : advanced_node h.block a b x ≡ y = same_at _ _ _ (sym (ap (node_at (advanced_by h (Some n) (Some n) a b)) (sym same)) ∙ advanced_same h n a b x e) at in
+      (x, ap (node_at h) same ∙ e, subst (λ q. IsLike x q) is refl)
+  | inr other ↦ (y, sym (advanced_other h n a b v other) ∙ at, refl)
+]
+
 -- the sound's unit as it is read
-pub record Played {B : Type 0} (old new : HeapState B) (s to : Sound) (xs : List ℤ) (pulls left n : ℕ) : Type 0 where
-  pub playing : IsPlaying new to xs (pulls + 1) (pulls + 1) left
+pub record Played (code : Code) (old new : HeapState Branch) (s to : Sound) (xs : List ℤ) (pulls left n : ℕ) : Type 0 where
+  pub playing : IsPlaying code new to xs (pulls + 1) (pulls + 1) left
   pub count : n ≡ length (take old.block (drop (pulls * old.block) xs))
   pub some : 0 < n
   pub samples : take n (drop (place_of s) xs) ≡ take old.block (drop (pulls * old.block) xs)
   pub pool : new.pool ≡ old.pool
   pub block : new.block ≡ old.block
 
-module _ {B : Type 0} (old new : HeapState B) (s to : Sound) (xs : List ℤ) (pulls left u n : ℕ) (playing : IsPlaying old s xs pulls (pulls + 1) left) (list : list_of s ≡ Some u) (short : pulls * old.block < length xs) (passes : Passes s to n) (run : n ≡ run_of old.block (computed_in old (list_of s)) s.timing.len (place_of s) old.block) (laws : HeapLaws new) (trimmed : IsTrimmed (advanced old s to) new) (keeps : KeepsMeaning old new) where
-  p : IsPulled old s (pulls + 1) left u
+module _ {code : Code} (old new : HeapState Branch) (s to : Sound) (xs : List ℤ) (pulls left u n : ℕ) (playing : IsPlaying code old s xs pulls (pulls + 1) left) (list : list_of s ≡ Some u) (short : pulls * old.block < length xs) (passes : Passes s to n) (run : n ≡ run_of old.block (computed_in old (list_of s)) s.timing.len (place_of s) old.block) (laws : HeapLaws new) (trimmed : IsTrimmed (advanced old s to) new) (keeps : KeepsMeaning old new) where
+  p : IsPulled (height_of code) old s (pulls + 1) left u
   p = playing.pulled u list
 
   computed : computed_in old (list_of s) ≡ min ((pulls + 1) * old.block) (length xs)
@@ -282,10 +279,10 @@ module _ {B : Type 0} (old new : HeapState B) (s to : Sound) (xs : List ℤ) (pu
   list_now = passes.list ∙ list
 
   -- the heap before what nobody reads is removed
-  between : HeapState B
+  between : HeapState Branch
   between = advanced_by old (Some u) (Some u) (place_of s) (place_of to)
 
-  marked : Node B
+  marked : Node Branch
   marked = advanced_node old.block (place_of s) (place_of to) p.unit
 
   trimmed_now : IsTrimmed (advanced_by old (Some u) (Some u) (place_of s) (place_of to)) new
@@ -294,8 +291,8 @@ module _ {B : Type 0} (old new : HeapState B) (s to : Sound) (xs : List ℤ) (pu
   size : (new.pool ≡ old.pool) × (new.block ≡ old.block)
   size = (trimmed_now.size.pool, trimmed_now.size.block)
 
-  from_old : (v : ℕ) (y : Node B) → node_at new v ≡ Some y → (x : Node B) × (node_at old v ≡ Some x) × Alike x y
-  from_old v y at = advanced_from old u (place_of s) (place_of to) p.unit p.there v y (trimmed_now.kept v y at)
+  from_old : (v : ℕ) (y : Node Branch) → node_at new v ≡ Some y → (x : Node Branch) × (node_at old v ≡ Some x) × IsLike x y
+  from_old v y at = advanced_like old u (place_of s) (place_of to) p.unit p.there v y (trimmed_now.kept v y at)
 
   marked_within : stands_in old.block p.unit.timing.len (place_of to) < length p.unit.outside
   marked_within =
@@ -322,7 +319,7 @@ module _ {B : Type 0} (old new : HeapState B) (s to : Sound) (xs : List ℤ) (pu
       let within : j < length less = omega (arith, length-set p.unit.outside k (slice_index p.unit.outside k - 1), marked_within) in
       let c = counted old s u playing.held list in
       let same : c.unit ≡ p.unit = same_at (node_at old u) c.unit p.unit c.there p.there in
-      let stands : 0 < slice_index p.unit.outside k = subst (λ (x : Node B). 0 < slice_index x.outside (stands_in old.block x.timing.len (place_of s))) same c.stands in
+      let stands : 0 < slice_index p.unit.outside k = subst (λ (x : Node Branch). 0 < slice_index x.outside (stands_in old.block x.timing.len (place_of s))) same c.stands in
       omega (arith, mark_less p.unit.outside k stands, mark_more less j within, p.only)
 
   there_between : node_at (advanced_by old (Some u) (Some u) (place_of s) (place_of to)) u ≡ Some (advanced_node old.block (place_of s) (place_of to) p.unit)
@@ -349,8 +346,7 @@ module _ {B : Type 0} (old new : HeapState B) (s to : Sound) (xs : List ℤ) (pu
   settled_now : IsSettled new
   settled_now v y at =
       let x = from_old v y at in
-      let was = playing.settled v x.0 x.1 in
-      (x.2.pending ∙ was.0, x.2.waiting ∙ was.1)
+      subst (λ (q : Node Branch). IsSettledUnit new.block q) (sym x.2) (subst (λ b. IsSettledUnit b x.0) (sym size.1) (playing.settled v x.0 x.1))
 
   samples_now : take n (drop (place_of s) xs) ≡ take old.block (drop (pulls * old.block) xs)
   samples_now =
@@ -358,29 +354,30 @@ module _ {B : Type 0} (old new : HeapState B) (s to : Sound) (xs : List ℤ) (pu
       let rest : length (drop (pulls * old.block) xs) ≡ length xs - pulls * old.block = length-drop (pulls * old.block) xs in
       (λ i. take ((count_is ∙ ap (λ m. min old.block m) (sym rest)) i) (drop (low i) xs)) ∙ take_min old.block (drop (pulls * old.block) xs)
 
-  pub played : Played old new s to xs pulls left n
+  pub played : Played code old new s to xs pulls left n
   played = record {
     playing = record {
       laws = laws;
       settled = settled_now;
+      ready = ready_on code old new from_old playing.ready;
       held = (subst IsTiming (sym passes.timing) playing.held.0, subst (λ o. IsHeldAt new to o) (sym list_now) counted_now);
       len = ap (λ t. t.len) passes.timing ∙ playing.len;
       place = subst (λ b. place_of to ≡ min ((pulls + 1) * b) (length xs)) (sym size.1) place_now;
-      pulled = λ m is. subst (λ v. IsPulled new to (pulls + 1) left v) (some_same u m (sym list_now ∙ is)) (record {
+      pulled = λ m is. subst (λ v. IsPulled (height_of code) new to (pulls + 1) left v) (some_same u m (sym list_now ∙ is)) (record {
         unit = advanced_node old.block (place_of s) (place_of to) p.unit;
         there = there_now;
         shown = p.shown ∙ sym (ap (λ t. t.len) passes.timing);
         done = p.done;
         only = only_now;
-        ranked = record { rank = p.ranked.rank; falls = λ a b uses. p.ranked.falls a b (uses_alike old new from_old a b uses); within = p.ranked.within };
+        ranked = record { rank = p.ranked.rank; ranks = ranks_from (height_of code) old new p.ranked.rank from_old p.ranked.ranks; within = p.ranked.within };
       });
       alone = λ v y at some. elim (cases_eq v u) [
         | inl same ↦ list_now ∙ ap Some (sym same)
         | inr other ↦ passes.list ∙ playing.alone v y (sym (advanced_other old u (place_of s) (place_of to) v other) ∙ trimmed_now.kept v y at) some
       ];
-      heard = λ part.
-          let was = playing.heard part in
-          record { whole = was.whole; means = keeps part was.whole was.means; samples = (λ i. (sound_in was.whole.samples (passes.list i) (passes.timing i)).samples) ∙ was.samples };
+      heard =
+          let was = playing.heard in
+          record { whole = was.whole; means = keeps (part_is code) was.whole was.means; samples = (λ i. (sound_in was.whole.samples (passes.list i) (passes.timing i)).samples) ∙ was.samples };
     };
     count = count_is ∙ sym (length-take old.block (drop (pulls * old.block) xs) ∙ ap (λ m. min old.block m) (length-drop (pulls * old.block) xs));
     some = some_of;
@@ -390,27 +387,26 @@ module _ {B : Type 0} (old new : HeapState B) (s to : Sound) (xs : List ℤ) (pu
   }
 
 -- the whole of a pull that gives samples: what is filled, and what is read then
-pub pulled_block : {B : Type 0} (old mid new : HeapState B) (s to : Sound) (xs : List ℤ) (pulls left u n most : ℕ) → IsPlaying old s xs pulls pulls left → open_unit old (list_of s) ≡ Some u → HeapLaws mid → IsSettled mid → ((rank : ℕ → ℕ) → IsRank old rank → Drives old mid u rank) → ComesFrom old mid → KeepsMeaning old mid → Passes s to n → most ≡ old.block → n ≡ run_of mid.block (computed_in mid (list_of s)) s.timing.len (place_of s) most → HeapLaws new → IsTrimmed (advanced mid s to) new → KeepsMeaning mid new → Played old new s to xs pulls left n
-pulled_block old mid new s to xs pulls left u n most playing e laws settled drives comes keeps passes room run laws_new trimmed keeps_new =
+pub pulled_block : {code : Code} (old mid new : HeapState Branch) (s to : Sound) (xs : List ℤ) (pulls left u n most : ℕ) → IsPlaying code old s xs pulls pulls left → open_unit old (list_of s) ≡ Some u → Walked code (height_of code) old mid u → StaysHeard code old mid → IsReady code mid → Passes s to n → most ≡ old.block → n ≡ run_of mid.block (computed_in mid (list_of s)) s.timing.len (place_of s) most → HeapLaws new → IsTrimmed (advanced mid s to) new → KeepsMeaning mid new → Played code old new s to xs pulls left n
+pulled_block old mid new s to xs pulls left u n most playing e walked hears ready passes room run laws_new trimmed keeps_new =
     let opens = open_of old s xs pulls left u playing e in
-    let size = driven_size old mid s xs pulls left u playing opens.list drives in
-    let filled = driven old mid s xs pulls left u playing opens.list laws settled drives comes keeps in
-    let short_mid : pulls * mid.block < length xs = subst (λ b. pulls * b < length xs) (sym size.1) opens.short in
-    let run_mid : n ≡ run_of mid.block (computed_in mid (list_of s)) s.timing.len (place_of s) mid.block = run ∙ ap (λ m. run_of mid.block (computed_in mid (list_of s)) s.timing.len (place_of s) m) (room ∙ sym size.1) in
+    let filled = driven old mid s xs pulls left u playing opens.list walked hears ready in
+    let short_mid : pulls * mid.block < length xs = subst (λ b. pulls * b < length xs) (sym hears.block) opens.short in
+    let run_mid : n ≡ run_of mid.block (computed_in mid (list_of s)) s.timing.len (place_of s) mid.block = run ∙ ap (λ m. run_of mid.block (computed_in mid (list_of s)) s.timing.len (place_of s) m) (room ∙ sym hears.block) in
     let so = played mid new s to xs pulls left u n filled opens.list short_mid passes run_mid laws_new trimmed keeps_new in
     record {
       playing = so.playing;
-      count = so.count ∙ ap (λ b. length (take b (drop (pulls * b) xs))) size.1;
+      count = so.count ∙ ap (λ b. length (take b (drop (pulls * b) xs))) hears.block;
       some = so.some;
-      samples = so.samples ∙ ap (λ b. take b (drop (pulls * b) xs)) size.1;
-      pool = so.pool ∙ size.0;
-      block = so.block ∙ size.1;
+      samples = so.samples ∙ ap (λ b. take b (drop (pulls * b) xs)) hears.block;
+      pool = so.pool ∙ hears.pool;
+      block = so.block ∙ hears.block;
     }
 
 -- the sound as it is read
-pub held_then : {B : Type 0} (old mid : HeapState B) (s : Sound) (xs : List ℤ) (pulls left u : ℕ) → IsPlaying old s xs pulls pulls left → open_unit old (list_of s) ≡ Some u → HeapLaws mid → IsSettled mid → ((rank : ℕ → ℕ) → IsRank old rank → Drives old mid u rank) → ComesFrom old mid → KeepsMeaning old mid → IsPlaying mid s xs pulls (pulls + 1) left
-held_then old mid s xs pulls left u playing e laws settled drives comes keeps =
-    driven old mid s xs pulls left u playing (open_of old s xs pulls left u playing e).list laws settled drives comes keeps
+pub held_then : {code : Code} (old mid : HeapState Branch) (s : Sound) (xs : List ℤ) (pulls left u : ℕ) → IsPlaying code old s xs pulls pulls left → open_unit old (list_of s) ≡ Some u → Walked code (height_of code) old mid u → StaysHeard code old mid → IsReady code mid → IsPlaying code mid s xs pulls (pulls + 1) left
+held_then old mid s xs pulls left u playing e walked hears ready =
+    driven old mid s xs pulls left u playing (open_of old s xs pulls left u playing e).list walked hears ready
 
 hour_of : (r : Rate) → last_index r ≤ 172800000
 hour_of R2205 = omega arith
@@ -424,7 +420,7 @@ hour_of R44100 = omega arith
 hour_of R48000 = omega arith
 
 -- there are no more pulls than samples
-pub few_pulls : {B : Type 0} (h : HeapState B) (s : Sound) (xs : List ℤ) (pulls left u : ℕ) → IsPlaying h s xs pulls pulls left → open_unit h (list_of s) ≡ Some u → pulls < 172800000
+pub few_pulls : {code : Code} (h : HeapState Branch) (s : Sound) (xs : List ℤ) (pulls left u : ℕ) → IsPlaying code h s xs pulls pulls left → open_unit h (list_of s) ≡ Some u → pulls < 172800000
 few_pulls h s xs pulls left u playing e =
     let short = (open_of h s xs pulls left u playing e).short in
     let times = mul-le pulls 1 pulls h.block (omega arith) playing.laws.positive in
@@ -433,15 +429,15 @@ few_pulls h s xs pulls left u playing e =
 -- ---- what has ended
 
 -- once all of it was read, the sound is given up, and nothing is left
-pub over_then : {B : Type 0} (old new : HeapState B) (s : Sound) (xs : List ℤ) (pulls left : ℕ) → IsPlaying old s xs pulls pulls left → open_unit old (list_of s) ≡ None → HeapLaws new → IsTrimmed (without_sound old s) new → IsOver new xs pulls
-over_then {B} old new s xs pulls left playing none laws trimmed = record {
+pub over_then : {code : Code} (old new : HeapState Branch) (s : Sound) (xs : List ℤ) (pulls left : ℕ) → IsPlaying code old s xs pulls pulls left → open_unit old (list_of s) ≡ None → HeapLaws new → IsTrimmed (without_sound old s) new → IsOver new xs pulls
+over_then {code} old new s xs pulls left playing none laws trimmed = record {
   laws = laws;
   over = omega (arith, ended_of old s xs pulls left playing none, ap (λ b. pulls * b) block);
   none = λ v. by_node v (node_at new v) refl;
 }
   where
     -- nothing is read from outside any more
-    quiet : (v : ℕ) (y : Node B) → node_at (without_sound old s) v ≡ Some y → 0 < sum y.outside → ⊥
+    quiet : (v : ℕ) (y : Node Branch) → node_at (without_sound old s) v ≡ Some y → 0 < sum y.outside → ⊥
     quiet v y at some = by_list (list_of s) refl at
       where
         by_list : (o : Option ℕ) → list_of s ≡ o → node_at (changed old o (λ x. without_mark (stands_in old.block x.timing.len (place_of s)) x)) v ≡ Some y → ⊥
@@ -454,9 +450,9 @@ over_then {B} old new s xs pulls left playing none laws trimmed = record {
               let p = playing.pulled n e in
               let c = counted old s n playing.held e in
               let unit : c.unit ≡ p.unit = same_at (node_at old n) c.unit p.unit c.there p.there in
-              let stands : 0 < slice_index p.unit.outside (stands_in old.block p.unit.timing.len (place_of s)) = subst (λ (x : Node B). 0 < slice_index x.outside (stands_in old.block x.timing.len (place_of s))) unit c.stands in
+              let stands : 0 < slice_index p.unit.outside (stands_in old.block p.unit.timing.len (place_of s)) = subst (λ (x : Node Branch). 0 < slice_index x.outside (stands_in old.block x.timing.len (place_of s))) unit c.stands in
               let now : without_mark (stands_in old.block p.unit.timing.len (place_of s)) p.unit ≡ y = same_at (node_at (changed old (Some n) (λ x. without_mark (stands_in old.block x.timing.len (place_of s)) x)) n) _ _ (changed_same old n (λ x. without_mark (stands_in old.block x.timing.len (place_of s)) x) p.unit p.there) (ap (node_at (changed old (Some n) (λ x. without_mark (stands_in old.block x.timing.len (place_of s)) x))) (sym same) ∙ there) in
-              omega (arith, some, ap (λ (x : Node B). sum x.outside) now, mark_less p.unit.outside (stands_in old.block p.unit.timing.len (place_of s)) stands, p.only)
+              omega (arith, some, ap (λ (x : Node Branch). sum x.outside) now, mark_less p.unit.outside (stands_in old.block p.unit.timing.len (place_of s)) stands, p.only)
           | inr other ↦ other (some_same v n (sym (playing.alone v y (sym (changed_other old n (λ x. without_mark (stands_in old.block x.timing.len (place_of s)) x) v other) ∙ there) some) ∙ e))
         ]
 
@@ -467,7 +463,7 @@ over_then {B} old new s xs pulls left playing none laws trimmed = record {
         by_list None = refl
         by_list (Some n) = refl
 
-    by_node : (v : ℕ) (o : Option (Node B)) → node_at new v ≡ o → node_at new v ≡ None
+    by_node : (v : ℕ) (o : Option (Node Branch)) → node_at new v ≡ o → node_at new v ≡ None
     by_node v None e = e
     by_node v (Some y) e =
         let root = (laws.nodes v y e).reached.1 in

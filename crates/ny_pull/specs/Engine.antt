@@ -3,16 +3,18 @@ use Rattle.std.specs.Prelude.{◌≡◌, ℕ, ◌+◌, ◌*◌, ◌<◌, ◌≤�
 use Rattle.ny_num.specs.declared.rate.Rate.{Rate}
 use Rattle.ny_num.specs.Sound.{silence}
 use Rattle.ny_heap.specs.Heap.{Node, HeapState, node_at, list_of, open_unit}
-use Rattle.ny_heap.specs.Means.{Parts, Whole, Means, sound_in}
+use Rattle.ny_heap.specs.Means.{Whole, Means, sound_in}
 use Rattle.ny_heap.specs.Reach.{IsTrimmed}
 use Rattle.ny_heap.specs.Steps.{Passes, without_sound, advanced}
 use Rattle.ny_heap.specs.declared.sound.Sound.{Sound}
+use Rattle.ny_hands.specs.Frames.{part_is}
 use Rattle.ny_hands.specs.declared.branch.Branch.{Branch}
 use Rattle.ny_pull.specs.declared.fault.PullFault.{PullFault}
 use Rattle.ny_pull.specs.declared.fault.PullFault.TheVariants.{PoolFull}
 use Rattle.ny_check.specs.Code.{Code}
 use Rattle.ny_check.specs.Channels.{channels}
-use Rattle.ny_eval.specs.Order.{FillsInOrder, StopsInOrder, FindsNoneFree}
+use Rattle.ny_walk.specs.Walk.{Walks}
+use Rattle.ny_walk.specs.Stops.{StopsAtFull as WalkStops, FindsNoneFree, RunsOut}
 
 -- `channels` has for each channel what is still to be pulled of it, and none once all of it was given. `pulled` has how many pulls of it gave samples. `spent`
 -- is the fault that ended the engine
@@ -45,16 +47,12 @@ abbrev pub IsReadByChannels : EngineState → Type 0
 IsReadByChannels e =
     (v : ℕ) (x : Node Branch) → node_at e.heap v ≡ Some x → 0 < sum x.outside → (c : ℕ) × (s : Sound) × (slice_get e.channels c ≡ Some (Some s)) × (list_of s ≡ Some v)
 
--- where the waiting parts are these, the heap holds parts of whole lists, and each channel that is still to be pulled is that of
--- the strict meaning
-pub record MeansChannels (part : Parts Branch) (e : EngineState) : Type 0 where
+-- A part that waits is what the program says. So the heap holds parts of whole lists, and each channel that is still to be pulled is
+-- that of the strict meaning
+pub record MeansItsChannels (e : EngineState) : Type 0 where
   pub whole : Whole
-  pub means : Means part e.heap whole
+  pub means : Means (part_is e.code) e.heap whole
   pub each : (c : ℕ) (s : Sound) → slice_get e.channels c ≡ Some (Some s) → (sound_in whole.samples (list_of s) s.timing).samples ≡ channel_at e c
-
--- whatever the waiting parts are
-abbrev pub MeansItsChannels : EngineState → Type 0
-MeansItsChannels e = (part : Parts Branch) → MeansChannels part e
 
 -- one pull more of channel c that gave samples
 abbrev pub with_pull : List ℕ → ℕ → List ℕ
@@ -73,8 +71,8 @@ abbrev pub Leaves : {B : Type 0} → HeapState B → HeapState B → Sound → O
 Leaves old new s None = (open_unit old (list_of s) ≡ None) × IsTrimmed (without_sound old s) new
 Leaves old new s (Some rest) = IsSome (open_unit old (list_of s)) × (rest ≡ s) × (new ≡ old)
 
--- a pull of channel c gives n samples. What its next block needs is filled, in order, and then read. With its last block the sound
--- is given up
+-- A pull of channel c gives n samples. What its next block needs is filled, in order, each time in a block that is free, and the parts
+-- that fall due are revealed. Then the block is read. With its last block the sound is given up
 pub record GivesBlock (old new : EngineState) (c n : ℕ) : Type 0 where
   pub before : Sound
   pub was : slice_get old.channels c ≡ Some (Some before)
@@ -83,7 +81,7 @@ pub record GivesBlock (old new : EngineState) (c n : ℕ) : Type 0 where
   pub deep : ℕ
   pub order : List ℕ
   pub filled : HeapState Branch
-  pub fills : FillsInOrder deep old.heap unit order filled
+  pub walks : Walks old.code deep old.heap unit order filled
   pub after : Sound
   pub passes : Passes before after n
   pub read : HeapState Branch
@@ -92,7 +90,7 @@ pub record GivesBlock (old new : EngineState) (c n : ℕ) : Type 0 where
   pub leaves : Leaves read new.heap after left
   pub now : new.channels ≡ slice_set old.channels c left
 
--- a pull of channel c stops: what its next block needs is filled, in order, to the first fill that finds no free block
+-- a pull of channel c stops: what its next block needs is filled and revealed, in order, to the first fill that finds no free block
 pub record StopsAtFull (old new : EngineState) (c : ℕ) : Type 0 where
   pub before : Sound
   pub was : slice_get old.channels c ≡ Some (Some before)
@@ -100,7 +98,7 @@ pub record StopsAtFull (old new : EngineState) (c : ℕ) : Type 0 where
   pub «open» : open_unit old.heap (list_of before) ≡ Some unit
   pub deep : ℕ
   pub order : List ℕ
-  pub stops : StopsInOrder deep old.heap unit order new.heap
+  pub stops : WalkStops old.code deep old.heap unit order new.heap
   pub now : new.channels ≡ old.channels
 
 -- what the next block of channel c needs can't be filled: a fill of it finds no block free
@@ -109,7 +107,19 @@ pub record NeedsMore (e : EngineState) (c : ℕ) : Type 0 where
   pub was : slice_get e.channels c ≡ Some (Some before)
   pub unit : ℕ
   pub «open» : open_unit e.heap (list_of before) ≡ Some unit
-  pub full : FindsNoneFree e.heap unit
+  pub full : FindsNoneFree e.code e.heap unit
+
+-- The next block of channel c can't be filled for want of memory: what it needs is filled and revealed, in order, to a part that is due.
+-- Of the heap that is left nothing is told but its laws and its size
+pub record LacksMemory (e : EngineState) (c : ℕ) : Type 0 where
+  pub before : Sound
+  pub was : slice_get e.channels c ≡ Some (Some before)
+  pub unit : ℕ
+  pub «open» : open_unit e.heap (list_of before) ≡ Some unit
+  pub deep : ℕ
+  pub order : List ℕ
+  pub last : HeapState Branch
+  pub runs : RunsOut e.code deep e.heap unit order last
 
 -- the fault of an engine whose pool is full
 abbrev pub full_of : EngineState → PullFault

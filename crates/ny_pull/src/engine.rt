@@ -1,16 +1,17 @@
-ghost use Rattle.std.specs.Prelude.{◌≡◌, ℕ, ◌<◌, ◌≤◌, ◌↔◌, ◌++◌, [], ◌∷◌, ◌⊎◌, nat_lt, if◌then◌else◌, IsTrue, true, None, Some, Ok, Err, IfSome, IfOk, IfErr, OnOk, OnErr, is_err, length, drop, sum};
+ghost use Rattle.std.specs.Prelude.{◌≡◌, ◌≢◌, ℕ, ◌<◌, ◌≤◌, ◌↔◌, ◌++◌, [], ◌∷◌, ◌⊎◌, nat_lt, if◌then◌else◌, IsTrue, true, false, None, Some, Ok, Err, IfSome, IfOk, IfErr, OnOk, OnErr, is_err, length, drop, sum};
 ghost use Rattle.ny_num.specs.Grid.{last_index};
 ghost use Rattle.ny_check.specs.Channels.{channels};
 ghost use Rattle.ny_eval.specs.Built.{is_built};
 ghost use Rattle.ny_heap.specs.Heap.{live_of};
 ghost use Rattle.ny_heap.specs.Means.{KeepsMeaning};
 ghost use Rattle.ny_heap.specs.Reach.{HeapLaws};
+ghost use Rattle.ny_heap.specs.Revealing.{has_waiting};
 ghost use Rattle.ny_heap.specs.Steps.{IsHeldSound};
-ghost use Rattle.ny_pull.specs.Engine.{EngineState, channel_at, next_block, HasEnded, IsReadByChannels, with_pull, SamePiece, MeansItsChannels, Leaves, GivesBlock, StopsAtFull, NeedsMore, full_of};
+ghost use Rattle.ny_pull.specs.Engine.{EngineState, channel_at, next_block, HasEnded, IsReadByChannels, with_pull, SamePiece, MeansItsChannels, Leaves, GivesBlock, StopsAtFull, NeedsMore, LacksMemory, full_of};
 
 use crate::fault::PullFault;
 use ny_check::Program;
-use ny_eval::{drive, eval_channels};
+use ny_eval::{DriveFault, drive, eval_channels};
 use ny_hands::Branch;
 use ny_heap::{Heap, Sound};
 use ny_num::{Rate, Sample};
@@ -135,9 +136,10 @@ impl Engine {
     /// Answers how many, 0 exactly where the channel has ended. `out` has the block's length.
     ///
     /// # Errors
-    /// `PoolFull` exactly where a fill finds no free block. The engine is spent then, and answers the same
-    /// at each later pull.
-    pub fn pull(&mut self, _alloc: Global, c: u32, out: &mut [Sample]) -> Result<usize, PullFault>
+    /// `PoolFull` where a fill finds no free block, and where no part waits exactly then. `OutOfMemory` where
+    /// memory is missing for a part that falls due, and so only where one waits. The engine is spent then, and
+    /// answers the same at each later pull.
+    pub fn pull(&mut self, alloc: Global, c: u32, out: &mut [Sample]) -> Result<usize, PullFault>
         requires channel { c < length self.old.channels }
         requires room { length out.old ≡ self.old.heap.block }
         ensures again { IfSome self.old.spent (λ fault. (result ≡ Err fault) × (self.new ≡ self.old)) }
@@ -149,12 +151,14 @@ impl Engine {
         ensures gives { IfOk result (λ n. HasEnded self.old c ⊎ GivesBlock self.old self.new c n) }
         ensures nothing { OnErr result ((out.new ≡ out.old) × (self.new.pulled ≡ self.old.pulled)) }
         ensures spent { IfErr result (λ fault. self.new.spent ≡ Some fault) }
-        ensures full { IfErr result (λ fault. (fault ≡ full_of self.old) × (live_of self.new.heap ≡ self.new.heap.pool)) }
-        ensures exact { self.old.spent ≡ None → (IsTrue (is_err result) ↔ NeedsMore self.old c) }
-        ensures stops { OnErr result (self.old.spent ≡ None → StopsAtFull self.old self.new c) }
+        ensures full { IfErr result (λ fault. fault ≢ PullFault.OutOfMemory → (fault ≡ full_of self.old) × (live_of self.new.heap ≡ self.new.heap.pool)) }
+        ensures exact { self.old.spent ≡ None → has_waiting self.old.heap ≡ false → (IsTrue (is_err result) ↔ NeedsMore self.old c) }
+        ensures stops { IfErr result (λ fault. fault ≢ PullFault.OutOfMemory → self.old.spent ≡ None → StopsAtFull self.old self.new c) }
+        ensures waits { IfErr result (λ fault. fault ≡ PullFault.OutOfMemory → self.old.spent ≡ None → has_waiting self.old.heap ≡ true) }
+        ensures lacks { IfErr result (λ fault. fault ≡ PullFault.OutOfMemory → self.old.spent ≡ None → LacksMemory self.old c) }
         ensures same { SamePiece self.old self.new }
         ensures laws { HeapLaws self.new.heap }
-        ensures means { MeansItsChannels self.new }
+        ensures means { self.new.spent ≢ Some PullFault.OutOfMemory → MeansItsChannels self.new }
     {
         if let Some(fault) = self.spent {
             return Err(fault);
@@ -165,14 +169,22 @@ impl Engine {
         let Some(unit) = self.heap.unit_of(&channel) else {
             unreachable!()
         };
-        if drive(&self.program, &mut self.heap, unit).is_err() {
-            let fault = PullFault::PoolFull {
-                pulls: self.pulls,
-                live: self.heap.live(),
-            };
-            self.channel = Some(channel);
-            self.spent = Some(fault);
-            return Err(fault);
+        match drive(alloc, &self.program, &mut self.heap, unit) {
+            Ok(()) => {}
+            Err(DriveFault::PoolFull) => {
+                let fault = PullFault::PoolFull {
+                    pulls: self.pulls,
+                    live: self.heap.live(),
+                };
+                self.channel = Some(channel);
+                self.spent = Some(fault);
+                return Err(fault);
+            }
+            Err(DriveFault::OutOfMemory) => {
+                self.channel = Some(channel);
+                self.spent = Some(PullFault::OutOfMemory);
+                return Err(PullFault::OutOfMemory);
+            }
         }
         let mut rest = channel;
         let count = self.heap.read(&mut rest, out);
@@ -185,9 +197,16 @@ impl Engine {
     pub fn live(&self) -> u32
         ensures live { result ≡ live_of self.now.heap }
         ensures laws { HeapLaws self.now.heap }
-        ensures reached { IsReadByChannels self.now }
+        ensures reached { self.now.spent ≢ Some PullFault.OutOfMemory → IsReadByChannels self.now }
     {
         self.heap.live()
+    }
+
+    /// Whether a part waits at a unit that has a block left to fill. Where none waits a pull takes no memory.
+    pub fn waiting(&self) -> bool
+        ensures { result ≡ has_waiting self.now.heap }
+    {
+        self.heap.waiting()
     }
 
     /// How many blocks were filled, or 2^64 - 1 where that is greater.

@@ -5,6 +5,6 @@ pub enum PullFault {
     /// A fill found no free block. `pulls` is how many pulls gave samples before, `live` how many
     /// blocks were taken: all.
     PoolFull { pulls: u64, live: u32 },
-    /// Memory is missing.
+    /// Memory was missing for a part that fell due.
     OutOfMemory,
 }
