@@ -18,13 +18,13 @@ use Rattle.ny_syntax.specs.declared.tree.Tree.{Tree}
 use Rattle.ny_top.specs.Words.{Render, Task, render, check}
 use Rattle.ny_top.specs.Channel.{playable, file_of, first_frames}
 use Rattle.ny_top.specs.Playing.{IsAsked, HasPlayed, IsFullAfter, IsPoolFull, IsNew, pulls_of}
-use Rattle.ny_top.specs.Rounds.{IsUnderway, Wrote, WrotePart, IsPulledOut, IsSpentAfter, EndsRounds, EndsFile}
+use Rattle.ny_top.specs.Rounds.{IsUnderway, Wrote, WrotePart, IsPulledOut, IsSpentAfter, IsShortOf, EndsRounds, EndsFile}
 use Rattle.ny_top.specs.Outcome.{Outcome, played, full, checked, refused, form_line, HasPlayOutcome, HasProgramOutcome, HasTreeOutcome}
-use Rattle.ny_top.specs.Ends.{EndsAs, ToldAs, FaultTold, MadePart, MadeTree, made, is_whole, is_unfailed, is_early}
+use Rattle.ny_top.specs.Ends.{EndsAs, ToldAs, FaultTold, MadePart, MadeTree, CutsFile, CutsTree, made, is_whole, is_unfailed, is_early}
 use Rattle.ny_top.specs.declared.status.Status.{Status}
 use Rattle.ny_top.specs.declared.status.Status.TheVariants as status
 use Rattle.ny_top.specs.declared.rounds.RoundFault.{RoundFault}
-use Rattle.ny_top.specs.declared.rounds.RoundFault.TheVariants.{Write, PoolFull}
+use Rattle.ny_top.specs.declared.rounds.RoundFault.TheVariants.{Write, PoolFull, OutOfMemory}
 use Rattle.ny_top.proofs.Parts.{written-new}
 use Rattle.ny_top.proofs.MonoLemmas.{IsMono, file_parts, first_parts, mono_of, is_playable}
 use Rattle.ny_top.proofs.RoundLemmas.{wrote_both, part_first, part_then}
@@ -60,6 +60,15 @@ module _ (rate : Rate) (code : Code) (xs : List ℤ) (mono : IsMono code rate xs
       let m = n * start.heap.block in
       let here : Wrote (frame_of (take m xs)) mid new = subst (λ ys. Wrote (frame_of (take m ys)) mid new) same wrote in (
         spent,
+        subst (λ r. Wrote (first_frames r start.code m) old new) (sym same_rate)
+            (subst (λ c. Wrote (first_frames rate c m) old new) (sym same_code) (wrote_first m first here)),
+        quiet_then old mid new quiet still,
+      )
+  ends_file start e OutOfMemory same_code same_rate same later quiet first (n, short, wrote, still) =
+      let m = n * start.heap.block in
+      let here : Wrote (frame_of (take m xs)) mid new = subst (λ ys. Wrote (frame_of (take m ys)) mid new) same wrote in (
+        n,
+        short,
         subst (λ r. Wrote (first_frames r start.code m) old new) (sym same_rate)
             (subst (λ c. Wrote (first_frames rate c m) old new) (sym same_code) (wrote_first m first here)),
         quiet_then old mid new quiet still,
@@ -149,6 +158,17 @@ pub fills_told : (r : Render) (start e : EngineState) (old new : HostState) (n :
     → ToldAs (HasPlayOutcome r start.code e) old new
 fills_told r start e old new n is spent told = (full r start.code n, inr (n, full_after r start e n is spent, refl), told)
 
+-- the file of a piece for which memory was missing
+pub cuts : (r : Render) (start e : EngineState) (old mid new : HostState) (n : ℕ) → IsNew r start → IsShortOf start e n → mid.created ≡ added (r.to, []) old.created
+    → Wrote (first_frames start.rate start.code (n * start.heap.block)) mid new → CutsFile r start.code e old new
+cuts r start e old mid new n is short is_new wrote =
+    let bytes : first_frames start.rate start.code (n * start.heap.block) ≡ first_frames r.rate start.code (n * r.block) =
+    ap (λ rate. first_frames rate start.code (n * start.heap.block)) is.asked.rate ∙ ap (λ b. first_frames r.rate start.code (n * b)) is.asked.block in (
+      n,
+      record { asked = asked_on r start e is short.same; piece = short.same.code; pulls = short.pulls; short = short.short },
+      holds r.to (first_frames r.rate start.code (n * r.block)) old mid new is_new (wrote ∙ ap (λ b. written b mid.created) bytes),
+    )
+
 -- ---- outcomes of outcomes
 
 pub ends_on : {P Q : Outcome → Type 0} (s : Status) (old new : HostState) → ((o : Outcome) → P o → Q o) → EndsAs P s old new → EndsAs Q s old new
@@ -180,6 +200,11 @@ of_no_tree r tree left none left_is =
 -- a first part of the file of a tree
 pub made_of_tree : (r : Render) (tree : Tree) (code : Code) (old new : HostState) → playable tree ≡ Some code → MadePart r.to (file_of r.rate code) old new → MadeTree (render r) tree old new
 made_of_tree r tree code old new is part = inr (code, is, part)
+
+-- the file of a tree for which memory was missing
+pub cuts_of_tree : (r : Render) (tree : Tree) (code : Code) (e : EngineState) (left : Option EngineState) (old new : HostState) → playable tree ≡ Some code → left ≡ Some e
+    → CutsFile r code e old new → CutsTree (render r) tree left old new
+cuts_of_tree r tree code e left old new is left_is cut = inr (code, is, (e, left_is, cut))
 
 not_whole : (s t : Status) → IsTrue (is_whole s) → s ≡ t → is_whole t ≡ false → ⊥
 not_whole s t whole is off =

@@ -5,6 +5,7 @@ pub mod Parts
 pub mod FaultLines
 pub mod Outcomes
 pub mod Stages
+pub mod PullLemmas
 pub mod RoundLemmas
 pub mod MonoLemmas
 pub mod FileLemmas

@@ -1,25 +1,20 @@
 -- A file that is written in rounds, and the engine that is pulled for it.
-use Rattle.std.proofs.Common.{◌≡◌, ℕ, ◌+◌, ◌-◌, ◌*◌, ◌<◌, ◌≤◌, List, [], ◌∷◌, ◌++◌, take, drop, length, nat_lt, if◌then◌else◌, Some, None, Result, Ok, Err, OnOk, OnErr, IfErr, refl, sym, ap, subst, ◌∙◌, arith, ℤ, slice_index, slice_index_or, sum, length-append, length-take, length-drop, lt_of_mul-lt-mul_right, add-mul, one-mul, lt_of_not-le}
+use Rattle.std.proofs.Common.{◌≡◌, ℕ, ◌+◌, ◌-◌, ◌*◌, ◌<◌, ◌≤◌, List, [], ◌∷◌, ◌++◌, take, drop, length, Some, Result, Ok, Err, OnOk, OnErr, IfErr, refl, sym, ap, subst, ◌∙◌, arith, ℤ, slice_index, length-append, lt_of_mul-lt-mul_right, lt_of_not-le}
 use Rattle.std.specs.Int.{div_ceil}
 use Rattle.std.proofs.lemmas.List.{take-append-drop, take-append-le, take_all}
 use Rattle.std.proofs.Math.Seq.{take-add, take-append-add}
-use Rattle.std.proofs.lemmas.Bool.{lt-ltb}
 use Rattle.std.proofs.lemmas.Grind.{div_ceil_times}
 use Rattle.ny_io.specs.Host.{HostState, NoneFell, SameCounts, written}
 use Rattle.ny_io.proofs.Written.{written-then, written-nothing}
-use Rattle.ny_heap.specs.Heap.{live_of}
-use Rattle.ny_heap.specs.Reach.{HeapLaws}
-use Rattle.ny_pull.specs.declared.fault.PullFault.{PullFault}
 use Rattle.ny_pull.specs.declared.fault.PullFault.TheVariants as faults
-use Rattle.ny_num.specs.Sound.{silence}
-use Rattle.ny_check.specs.Channels.{channels}
-use Rattle.ny_pull.specs.Engine.{EngineState, channel_at, passed_of, next_block, HasEnded, with_pull, SamePiece, StopsAtFull, full_of}
+use Rattle.ny_pull.specs.Engine.{EngineState, channel_at, passed_of, next_block, HasEnded, SamePiece}
 use Rattle.ny_wav.specs.WavFile.{frame_of}
 use Rattle.ny_wav.proofs.Frames.{frame_of-nil, frame_of-append}
-use Rattle.ny_top.specs.Rounds.{IsUnderway, Wrote, WrotePart, IsPulledOut, IsSpentAfter, IsRoundFault, EndsRounds}
+use Rattle.ny_top.specs.Rounds.{IsUnderway, Wrote, WrotePart, IsPulledOut, IsRoundFault, EndsRounds}
+use Rattle.ny_top.proofs.PullLemmas.{one_of, one_more, same_channel}
 use Rattle.ny_top.proofs.Stages.{rose_from, quiet_none, quiet_then}
 use Rattle.ny_top.specs.declared.rounds.RoundFault.{RoundFault}
-use Rattle.ny_top.specs.declared.rounds.RoundFault.TheVariants.{Write, PoolFull}
+use Rattle.ny_top.specs.declared.rounds.RoundFault.TheVariants.{Write, PoolFull, OutOfMemory}
 
 -- ---- bytes
 
@@ -66,81 +61,6 @@ more_part xs passed block old mid new before part =
     (part_then (frame_of (take passed xs)) (frame_of rest) old mid new before
     (subst (λ bytes. WrotePart bytes mid new) (frames_split block rest) (part_first (frame_of (take block rest)) (frame_of (drop block rest)) mid new part)))
 
--- ---- pulls
-
--- a list of one number
-one_of : (xs : List ℕ) → length xs ≡ 1 → xs ≡ slice_index xs 0 ∷ []
-one_of [] e = absurd (omega (arith, e))
-one_of (x ∷ []) e = refl
-one_of (x ∷ y ∷ xs) e = absurd (omega (arith, e))
-
-pub with_one : (xs : List ℕ) → length xs ≡ 1 → with_pull xs 0 ≡ (slice_index xs 0 + 1) ∷ []
-with_one [] e = absurd (omega (arith, e))
-with_one (x ∷ []) e = refl
-with_one (x ∷ y ∷ xs) e = absurd (omega (arith, e))
-
-sum_one : (xs : List ℕ) → length xs ≡ 1 → xs ≡ sum xs ∷ []
-sum_one [] e = absurd (omega (arith, e))
-sum_one (x ∷ []) e = ap (λ (n : ℕ). n ∷ []) (omega arith)
-sum_one (x ∷ y ∷ xs) e = absurd (omega (arith, e))
-
-one_more : (k b : ℕ) → (k + 1) * b ≡ k * b + b
-one_more k b = add-mul k 1 b ∙ ap (λ n. k * b + n) (one-mul b)
-
-same_channel : (old new : EngineState) → SamePiece old new → channel_at new 0 ≡ channel_at old 0
-same_channel old new same = λ i. (slice_index_or (channels (same.code i) (same.rate i)) 0 (silence (same.rate i))).samples
-
--- a pull that gave samples
-module _ (old new : EngineState) (under : IsUnderway old) (left : passed_of old 0 < length (channel_at old 0)) (n : ℕ) (count : n ≡ length (next_block old 0)) (same : SamePiece old new) (pulled : new.pulled ≡ (if nat_lt 0 n then with_pull old.pulled 0 else old.pulled)) where
-  some : 0 < n
-  some = omega (arith, count, length-take old.heap.block (drop (passed_of old 0) (channel_at old 0)), length-drop (passed_of old 0) (channel_at old 0), left, under.laws.positive)
-
-  once : new.pulled ≡ (slice_index old.pulled 0 + 1) ∷ []
-  once = pulled ∙ ap (λ b. if b then with_pull old.pulled 0 else old.pulled) (lt-ltb 0 n some) ∙ with_one old.pulled under.one
-
-  pub passed_more : passed_of new 0 ≡ passed_of old 0 + old.heap.block
-  passed_more =
-      ap (λ xs. slice_index xs 0 * new.heap.block) once
-      ∙ ap (λ b. (slice_index old.pulled 0 + 1) * b) same.block
-      ∙ one_more (slice_index old.pulled 0) old.heap.block
-
-  pub underway_more : new.spent ≡ None → HeapLaws new.heap → IsUnderway new
-  underway_more unspent laws = record {
-    channel = same.channels ∙ under.channel;
-    one = ap length once;
-    unspent = unspent;
-    laws = laws;
-    gave = omega (arith, left, passed_more, ap length (same_channel old new same), same.block);
-  }
-
-full_parts : (n live m pool : ℕ) → faults.PoolFull n live ≡ faults.PoolFull m pool → (n ≡ m) × (live ≡ pool)
-full_parts n live m pool e = (cc, cc)
-
--- a pull that found the pool full
-pub spent_after : (old new : EngineState) (fault : PullFault) (n live : ℕ) → IsUnderway old → fault ≡ faults.PoolFull n live
-    → (fault ≡ full_of old) × (live_of new.heap ≡ new.heap.pool) → new.spent ≡ Some fault → new.pulled ≡ old.pulled → SamePiece old new → HeapLaws new.heap
-    → (old.spent ≡ None → StopsAtFull old new 0) → (old.pulled ≡ n ∷ []) × IsSpentAfter old new n
-spent_after old new fault n live under is full spent pulled same laws stops =
-    let parts = full_parts n live (sum old.pulled) old.heap.pool (sym is ∙ full.0) in
-    let before : old.pulled ≡ n ∷ [] = sum_one old.pulled under.one ∙ ap (λ (m : ℕ). m ∷ []) (sym parts.0) in (
-      before,
-      record {
-        same = same;
-        pulls = pulled ∙ before;
-        spent = spent ∙ ap Some is ∙ ap (λ m. Some (faults.PoolFull n m)) parts.1;
-        stopped = record {
-          laws = laws;
-          taken = full.1;
-          before = old;
-          same = same;
-          pulls = sym pulled;
-          unspent = under.unspent;
-          earlier = under.laws;
-          stops = stops under.unspent;
-        };
-      },
-    )
-
 -- ---- rounds
 
 pub same_then : (start mid new : EngineState) → SamePiece start mid → SamePiece mid new → SamePiece start new
@@ -180,6 +100,13 @@ ends_rounds start mid e old now later (PoolFull n) same counts quiet before (pul
         spent = spent.spent ∙ ap (λ pool. Some (faults.PoolFull n pool)) same.pool;
         stopped = spent.stopped;
       },
+      kept ∙ before ∙ ap (λ m. written (frame_of (take m (channel_at start 0))) old.created) passed,
+      quiet_then old now later quiet still,
+    )
+ends_rounds start mid e old now later OutOfMemory same counts quiet before (n, pulled, short, kept, still) =
+    let passed : passed_of mid 0 ≡ n * start.heap.block = ap (λ xs. slice_index xs 0 * mid.heap.block) pulled ∙ ap (λ b. n * b) same.block in (
+      n,
+      record { same = same_then start mid e same short.same; pulls = short.pulls; short = short.short },
       kept ∙ before ∙ ap (λ m. written (frame_of (take m (channel_at start 0))) old.created) passed,
       quiet_then old now later quiet still,
     )

@@ -1,16 +1,17 @@
 -- What a stage of a run says of the states round it, by what the next stage says.
-use Rattle.std.proofs.Common.{◌≡◌, ℕ, ◌≤◌, ◌<◌, ◌⊎◌, List, [], length, take, refl, sym, subst, ap, ◌∙◌, arith, None, Some, IfSome, inl, inr}
+use Rattle.std.proofs.Common.{◌≡◌, ℕ, ◌*◌, ◌≤◌, ◌<◌, ◌⊎◌, List, [], length, take, refl, sym, subst, ap, ◌∙◌, arith, None, Some, IfSome, inl, inr}
 use Rattle.std.specs.declared.option.Option.{Option}
 use Rattle.std.specs.Io.KnownBytes.{append_known}
 use Rattle.ny_io.specs.Faults.{Rose}
 use Rattle.ny_io.specs.Host.{HostState, Named, NoneFell, SameCounts, SameOutput, bytes_under, added}
 use Rattle.ny_syntax.specs.declared.tree.Tree.{Tree}
+use Rattle.ny_check.specs.Code.{Code}
 use Rattle.ny_pull.specs.Engine.{EngineState}
-use Rattle.ny_top.specs.Channel.{file_of}
+use Rattle.ny_top.specs.Channel.{file_of, first_frames}
 use Rattle.ny_top.specs.declared.status.Status.{Status}
-use Rattle.ny_top.specs.Words.{Task, Command, render, check, read_words}
+use Rattle.ny_top.specs.Words.{Render, Task, Command, render, check, read_words}
 use Rattle.ny_top.specs.Outcome.{Outcome, most, refused, too_long_line, create_line, usage_outcome, HasReadOutcome, HasTextOutcome, HasCommandOutcome, HasOutcome}
-use Rattle.ny_top.specs.Ends.{made, IsOutcome, EndsAs, ToldAs, FaultTold, WriteTold, CreateCause, CreateTold, OpenCause, HasPiece, MadePart, MadeTree, MadeText, Makes}
+use Rattle.ny_top.specs.Ends.{made, IsOutcome, EndsAs, ToldAs, FaultTold, WriteTold, CreateCause, CreateTold, OpenCause, HasPiece, MadePart, MadeTree, MadeText, Makes, CutsFile, CutsTree, CutsText, CutsShort}
 use Rattle.ny_top.proofs.FaultLines.{told_from}
 
 pub quiet_none : (old : HostState) → SameCounts old old
@@ -119,6 +120,21 @@ pub makes_read : (command : Command) (text : List ℕ) (old mid new : HostState)
 makes_read command text old mid new same whole (inl made) = inl (made ∙ same.created)
 makes_read command text old mid new same whole (inr made) =
     inr (text, whole, inr (made.0, made.1, made_tree command.task made.0 old mid new same.created made.2))
+
+cuts_file : (r : Render) (code : Code) (e : EngineState) (old mid new : HostState) → mid.created ≡ old.created → CutsFile r code e mid new → CutsFile r code e old new
+cuts_file r code e old mid new same cut = (cut.0, cut.1, cut.2 ∙ ap (added (r.to, first_frames r.rate code (cut.0 * r.block))) same)
+
+cuts_tree : (task : Task) (tree : Tree) (left : Option EngineState) (old mid new : HostState) → SameOutput old mid → CutsTree task tree left mid new → CutsTree task tree left old new
+cuts_tree check tree left old mid new same cut = output_then old mid new same cut
+cuts_tree (render r) tree left old mid new same (inl cut) = inl (output_then old mid new same cut)
+cuts_tree (render r) tree left old mid new same (inr cut) = inr (cut.0, cut.1, (cut.2.0, cut.2.1, cuts_file r cut.0 cut.2.0 old mid new same.created cut.2.2))
+
+-- memory was missing for a text that was read
+pub cuts_read : (command : Command) (text : List ℕ) (left : Option EngineState) (old mid new : HostState) → SameOutput old mid
+    → IfSome old.files (λ files. text ≡ bytes_under command.from files) → CutsText command.task text left mid new → CutsShort command left old new
+cuts_read command text left old mid new same whole (inl cut) = inl (output_then old mid new same cut)
+cuts_read command text left old mid new same whole (inr cut) =
+    inr (text, whole, inr (cut.0, cut.1, cuts_tree command.task cut.0 left old mid new same cut.2))
 
 -- a file that is too long is refused, once its line was printed
 pub too_long_ends : (task : Task) (from : List ℕ) (left : Option EngineState) (status : Status) (old new : HostState) → left ≡ None

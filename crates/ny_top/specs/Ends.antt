@@ -1,16 +1,16 @@
 -- What stands at the end of a run, whatever failed.
-use Rattle.std.specs.Prelude.{ℕ, ◌≡◌, ◌≤◌, ◌+◌, ◌-◌, ◌^◌, ◌⊎◌, List, [], take, length, min, IfSome, IsSomeAnd, None, Some, Bool, true, false}
+use Rattle.std.specs.Prelude.{ℕ, ◌≡◌, ◌≤◌, ◌+◌, ◌*◌, ◌-◌, ◌^◌, ◌⊎◌, List, [], take, length, min, IfSome, IsSomeAnd, None, Some, Bool, true, false}
 use Rattle.std.specs.declared.option.Option.{Option}
 use Rattle.std.specs.Io.KnownBytes.{append_known}
 use Rattle.ny_io.specs.Faults.{Rose}
-use Rattle.ny_io.specs.Host.{Named, HostState, added, bytes_under}
+use Rattle.ny_io.specs.Host.{Named, HostState, SameOutput, added, bytes_under}
 use Rattle.ny_syntax.specs.declared.tree.Tree.{Tree}
 use Rattle.ny_pull.specs.Engine.{EngineState}
 use Rattle.ny_check.specs.Code.{Code}
-use Rattle.ny_top.specs.Channel.{playable, file_of}
-use Rattle.ny_top.specs.Playing.{IsPoolFull}
+use Rattle.ny_top.specs.Channel.{playable, file_of, first_frames}
+use Rattle.ny_top.specs.Playing.{IsPoolFull, IsShortAfter}
 use Rattle.ny_top.specs.Reading.{IsAccepted}
-use Rattle.ny_top.specs.Words.{Task, Command, render, check}
+use Rattle.ny_top.specs.Words.{Render, Task, Command, render, check}
 use Rattle.ny_top.specs.Outcome.{Outcome, most, usage_line, open_line, read_line, create_line, write_line, HasTextOutcome}
 use Rattle.ny_top.specs.declared.status.Status.{Status}
 use Rattle.ny_top.specs.declared.status.Status.TheVariants.{Ok, Usage, OpenFault, ReadFault, WriteFault, Refused, PoolFull, OutOfMemory}
@@ -51,13 +51,13 @@ is_unfailed OpenFault = false
 is_unfailed ReadFault = false
 is_unfailed WriteFault = false
 
--- a status that stands before an output is created
+-- a status that stands before an output is created (want of memory may stand after it: `CutsShort`)
 abbrev pub is_early : Status → Bool
 is_early Usage = true
 is_early OpenFault = true
 is_early ReadFault = true
 is_early Refused = true
-is_early OutOfMemory = true
+is_early OutOfMemory = false
 is_early Ok = false
 is_early WriteFault = false
 is_early PoolFull = false
@@ -99,6 +99,35 @@ abbrev pub Makes : Command → HostState → HostState → Type 0
 Makes command old new =
     (new.created ≡ old.created)
     ⊎ ((text : List ℕ) × IfSome old.files (λ files. text ≡ bytes_under command.from files) × MadeText command.task text old new)
+
+-- Memory was missing for a part of the piece that fell due. The engine that is left has given so many blocks, and the created file
+-- holds the header of the whole file and their frames.
+abbrev pub CutsFile : Render → Code → EngineState → HostState → HostState → Type 0
+CutsFile r code e old new =
+    (count : ℕ) × IsShortAfter r code count e × (new.created ≡ added (r.to, first_frames r.rate code (count * r.block)) old.created)
+
+-- memory was missing before an output was created, or for a part of the tree that was played
+abbrev pub CutsTree : Task → Tree → Option EngineState → HostState → HostState → Type 0
+CutsTree check tree left old new = SameOutput old new
+CutsTree (render r) tree left old new =
+    SameOutput old new
+    ⊎ ((code : Code) × (playable tree ≡ Some code) × ((e : EngineState) × (left ≡ Some e) × CutsFile r code e old new))
+
+-- the same of the tree that a text has, if it is accepted
+abbrev pub CutsText : Task → List ℕ → Option EngineState → HostState → HostState → Type 0
+CutsText task text left old new =
+    SameOutput old new ⊎ ((tree : Tree) × IsAccepted text tree × CutsTree task tree left old new)
+
+-- the same of the text under the input's name
+abbrev pub CutsShort : Command → Option EngineState → HostState → HostState → Type 0
+CutsShort command left old new =
+    SameOutput old new
+    ⊎ ((text : List ℕ) × IfSome old.files (λ files. text ≡ bytes_under command.from files) × CutsText command.task text left old new)
+
+-- the same of the words: where they are no command, memory is not asked for
+abbrev pub RunCutsShort : Option Command → Option EngineState → HostState → HostState → Type 0
+RunCutsShort None left old new = SameOutput old new
+RunCutsShort (Some command) left old new = CutsShort command left old new
 
 -- the tree can be played
 abbrev pub CanBePlayed : Tree → Type 0

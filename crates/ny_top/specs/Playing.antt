@@ -1,14 +1,15 @@
--- The engine that a run leaves: whether it played a piece to its end, or found its pool full.
-use Rattle.std.specs.Prelude.{◌≡◌, ℕ, ◌<◌, ◌≤◌, [], ◌∷◌, map, length, Some, None}
+-- The engine that a run leaves: whether it played a piece to its end, found its pool full, or found memory missing.
+use Rattle.std.specs.Prelude.{◌≡◌, ℕ, ◌<◌, ◌≤◌, true, [], ◌∷◌, map, length, Some, None}
 use Rattle.std.specs.Int.{div_ceil}
 use Rattle.ny_num.specs.Grid.{last_index}
 use Rattle.ny_heap.specs.Heap.{live_of}
 use Rattle.ny_heap.specs.Reach.{HeapLaws}
+use Rattle.ny_heap.specs.Revealing.{has_waiting}
 use Rattle.ny_num.specs.Sound as sounds
 use Rattle.ny_check.specs.Code.{Code}
 use Rattle.ny_check.specs.Channels.{channels}
-use Rattle.ny_pull.specs.declared.fault.PullFault.TheVariants.{PoolFull}
-use Rattle.ny_pull.specs.Engine.{EngineState, channel_at, HasEnded, SamePiece, StopsAtFull}
+use Rattle.ny_pull.specs.declared.fault.PullFault.TheVariants.{PoolFull, OutOfMemory}
+use Rattle.ny_pull.specs.Engine.{EngineState, channel_at, HasEnded, SamePiece, StopsAtFull, LacksMemory}
 use Rattle.ny_top.specs.Words.{Render}
 
 -- the engine has the rate, the pool and the block length that are asked for
@@ -47,6 +48,25 @@ pub record IsStopped (e : EngineState) : Type 0 where
   pub unspent : before.spent ≡ None
   pub earlier : HeapLaws before.heap
   pub stops : StopsAtFull before e 0
+
+-- Memory was missing for a part that fell due. The pull that found it so began when the engine had made these pulls and was not spent,
+-- and some part waited.
+pub record IsShort (e : EngineState) : Type 0 where
+  pub spent : e.spent ≡ Some OutOfMemory
+  pub before : EngineState
+  pub same : SamePiece before e
+  pub pulls : before.pulled ≡ e.pulled
+  pub unspent : before.spent ≡ None
+  pub earlier : HeapLaws before.heap
+  pub waits : has_waiting before.heap ≡ true
+  pub lacks : LacksMemory before 0
+
+-- the engine has given so many blocks of this program, and memory was missing at the pull after them
+pub record IsShortAfter (r : Render) (code : Code) (count : ℕ) (e : EngineState) : Type 0 where
+  pub asked : IsAsked r e
+  pub piece : e.code ≡ code
+  pub pulls : e.pulled ≡ count ∷ []
+  pub short : IsShort e
 
 -- the pool that was asked for is full
 abbrev pub IsPoolFull : Render → EngineState → Type 0

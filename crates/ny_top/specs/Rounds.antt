@@ -8,9 +8,9 @@ use Rattle.ny_pull.specs.Engine.{EngineState, channel_at, passed_of, HasEnded, S
 use Rattle.ny_pull.specs.declared.fault.PullFault.TheVariants as faults
 use Rattle.ny_wav.specs.WavFile.{frame_of}
 use Rattle.ny_top.specs.Channel.{first_frames}
-use Rattle.ny_top.specs.Playing.{IsStopped}
+use Rattle.ny_top.specs.Playing.{IsStopped, IsShort}
 use Rattle.ny_top.specs.declared.rounds.RoundFault.{RoundFault}
-use Rattle.ny_top.specs.declared.rounds.RoundFault.TheVariants.{Write, PoolFull}
+use Rattle.ny_top.specs.declared.rounds.RoundFault.TheVariants.{Write, PoolFull, OutOfMemory}
 
 -- an engine between two rounds: each pull so far gave samples
 pub record IsUnderway (e : EngineState) : Type 0 where
@@ -42,20 +42,33 @@ pub record IsSpentAfter (start e : EngineState) (count : ℕ) : Type 0 where
   pub spent : e.spent ≡ Some (faults.PoolFull count start.heap.pool)
   pub stopped : IsStopped e
 
--- why a round ended early. At a full pool nothing of it was written, and no count changed
+-- memory was missing after so many pulls
+pub record IsShortOf (start e : EngineState) (count : ℕ) : Type 0 where
+  pub same : SamePiece start e
+  pub pulls : e.pulled ≡ count ∷ []
+  pub short : IsShort e
+
+-- why a round ended early. At a full pool, and where memory was missing, nothing of it was written, and no count changed
 abbrev pub IsRoundFault : EngineState → EngineState → HostState → HostState → RoundFault → Type 0
 IsRoundFault start e old new Write = Rose old.writes new.writes
 IsRoundFault start e old new (PoolFull count) = (start.pulled ≡ count ∷ []) × IsSpentAfter start e count × (new.created ≡ old.created) × SameCounts old new
+IsRoundFault start e old new OutOfMemory =
+    (count : ℕ) × (start.pulled ≡ count ∷ []) × IsShortOf start e count × (new.created ≡ old.created) × SameCounts old new
 
--- why the rounds ended early. At a full pool the frames of all rounds before were written, and no count changed
+-- why the rounds ended early. At a full pool, and where memory was missing, the frames of all rounds before were written, and no count
+-- changed
 abbrev pub EndsRounds : EngineState → EngineState → HostState → HostState → RoundFault → Type 0
 EndsRounds start e old new Write = Rose old.writes new.writes
 EndsRounds start e old new (PoolFull count) =
     IsSpentAfter start e count × Wrote (frame_of (take (count * start.heap.block) (channel_at start 0))) old new × SameCounts old new
+EndsRounds start e old new OutOfMemory =
+    (count : ℕ) × IsShortOf start e count × Wrote (frame_of (take (count * start.heap.block) (channel_at start 0))) old new × SameCounts old new
 
--- why the file's parts ended early. At a full pool its header and the frames of all rounds before were written, and no
--- count changed
+-- why the file's parts ended early. At a full pool, and where memory was missing, its header and the frames of all rounds before were
+-- written, and no count changed
 abbrev pub EndsFile : EngineState → EngineState → HostState → HostState → RoundFault → Type 0
 EndsFile start e old new Write = Rose old.writes new.writes
 EndsFile start e old new (PoolFull count) =
     IsSpentAfter start e count × Wrote (first_frames start.rate start.code (count * start.heap.block)) old new × SameCounts old new
+EndsFile start e old new OutOfMemory =
+    (count : ℕ) × IsShortOf start e count × Wrote (first_frames start.rate start.code (count * start.heap.block)) old new × SameCounts old new

@@ -5,7 +5,7 @@ ghost use Rattle.ny_io.specs.Host.{NoneFell, SameCounts, SameOutput, Named};
 ghost use Rattle.ny_pull.specs.Engine.{EngineState};
 ghost use Rattle.ny_top.specs.Outcome.{Outcome, HasOutcome, usage_line, IsRefused, IsUnrefused};
 ghost use Rattle.ny_top.specs.Words.{read_words};
-ghost use Rattle.ny_top.specs.Ends.{OpenCause, ReadCause, NoneRose, RunWriteTold, RunMakes, EndsAs, TaskPoolFull, is_whole, is_unfailed, is_early};
+ghost use Rattle.ny_top.specs.Ends.{OpenCause, ReadCause, NoneRose, RunWriteTold, RunMakes, RunCutsShort, EndsAs, TaskPoolFull, is_whole, is_unfailed, is_early};
 
 use crate::ends::finish;
 use crate::names::run_names;
@@ -19,7 +19,7 @@ use std::alloc::Global;
 /// (`docs/LANGUAGE.md`, "The command line"; `docs/DEFINITIONS.md`, "The outcome of a run").
 ///
 /// `left` keeps the engine that was pulled, from its opening on; it is none at entry. It tells how far
-/// the piece was played: to its end, or to a full pool.
+/// the piece was played: to its end, to a full pool, or to a part for which memory was missing.
 pub fn run<H: Host>(
     alloc: Global,
     words: &[String],
@@ -51,8 +51,12 @@ pub fn run<H: Host>(
     // A count of faults changed only where the answer is a fault: none is told as want of memory, or as
     // anything else, and none is passed over.
     ensures unfailed { IsTrue (is_unfailed result) → SameCounts (H.state host.old) (H.state host.new) }
-    // An output is created only where the piece is played: at Ok, at a full pool and at a failed write.
+    // An output is created only where the piece is played: at Ok, at a full pool, at a failed write, and where memory was missing for a
+    // part of it that fell due.
     ensures early { IsTrue (is_early result) → SameOutput (H.state host.old) (H.state host.new) }
+    // Where memory was missing no output was created; or it holds the header of the whole file and the frames of all blocks before the
+    // pull at which a part fell due that memory was missing for. That part waited when the pull began, and the engine left tells so.
+    ensures cut_short { result ≡ Status.OutOfMemory → RunCutsShort (read_words (map string_bytes words.now)) left.new (H.state host.old) (H.state host.new) }
 
     // At most one file is created, for a command alone, and it holds a first part of the one WAV file.
     ensures prefix { RunMakes (read_words (map string_bytes words.now)) (H.state host.old) (H.state host.new) }

@@ -6,7 +6,7 @@ ghost use Rattle.ny_top.specs.Channel.{file_of};
 ghost use Rattle.ny_top.specs.Outcome.{create_line, HasPlayOutcome};
 ghost use Rattle.ny_top.specs.Playing.{IsNew, IsPoolFull};
 ghost use Rattle.ny_top.specs.Rounds.{IsPulledOut, EndsFile, Wrote, WrotePart};
-ghost use Rattle.ny_top.specs.Ends.{FaultTold, ToldAs, EndsAs, MadePart, is_whole, is_unfailed, is_early};
+ghost use Rattle.ny_top.specs.Ends.{FaultTold, ToldAs, EndsAs, MadePart, CutsFile, is_whole, is_unfailed, is_early};
 ghost use Rattle.ny_top.specs.Views.{render_view};
 
 use crate::ends::{OutputLines, end_at, end_full, tell_fault};
@@ -55,7 +55,7 @@ fn write_parts<H: Host>(
 }
 
 /// Creates the output and plays an engine into it that was just opened. From here on no memory is
-/// taken.
+/// taken but for the parts that fall due.
 pub(crate) fn write_file<H: Host>(
     alloc: Global,
     host: &mut H,
@@ -70,7 +70,7 @@ pub(crate) fn write_file<H: Host>(
     requires line { lines.create.items ≡ create_line render.output.now }
     ensures counts { NoneFell (H.state host.old) (H.state host.new) }
     ensures files { (H.state host.new).files ≡ (H.state host.old).files }
-    ensures status { (result ≢ Status.Usage) × (result ≢ Status.ReadFault) × (result ≢ Status.Refused) × (result ≢ Status.OutOfMemory) }
+    ensures status { (result ≢ Status.Usage) × (result ≢ Status.ReadFault) × (result ≢ Status.Refused) }
     ensures unfailed { IsTrue (is_unfailed result) → SameCounts (H.state host.old) (H.state host.new) }
     ensures whole { IsTrue (is_whole result) → EndsAs (HasPlayOutcome (render_view render.entry) engine.old.code engine.new) result (H.state host.old) (H.state host.new) }
     ensures pool_full { result ≡ Status.PoolFull → IsPoolFull (render_view render.entry) engine.new }
@@ -80,6 +80,8 @@ pub(crate) fn write_file<H: Host>(
     ensures told { result ≡ Status.WriteFault → FaultTold [] (H.state host.old) (H.state host.new)
         ⊎ ToldAs (HasPlayOutcome (render_view render.entry) engine.old.code engine.new) (H.state host.old) (H.state host.new)
         ⊎ (Rose ((H.state host.old).creates render.entry.output.now) ((H.state host.new).creates render.entry.output.now) × FaultTold (create_line render.entry.output.now) (H.state host.old) (H.state host.new)) }
+    ensures memory { result ≡ Status.OutOfMemory → CutsFile (render_view render.entry) engine.old.code engine.new (H.state host.old) (H.state host.new) }
+    ensures unprinted { result ≡ Status.OutOfMemory → (H.state host.new).printed ≡ (H.state host.old).printed }
     ensures early { IsTrue (is_early result) → SameOutput (H.state host.old) (H.state host.new) }
     ensures part { MadePart render.entry.output.now (file_of render.entry.rate engine.old.code) (H.state host.old) (H.state host.new) }
 {
@@ -94,5 +96,6 @@ pub(crate) fn write_file<H: Host>(
             Status::WriteFault
         }
         Err(RoundFault::PoolFull { pulls }) => end_full(host, lines.full, pulls),
+        Err(RoundFault::OutOfMemory) => Status::OutOfMemory,
     }
 }

@@ -3,7 +3,7 @@ ghost use Rattle.std.specs.Io.KnownBytes.{append_known};
 ghost use Rattle.ny_io.specs.Faults.{Rose};
 ghost use Rattle.ny_io.specs.Host.{NoneFell, SameCounts, SameOutput, bytes_under};
 ghost use Rattle.ny_top.specs.Outcome.{HasTextOutcome};
-ghost use Rattle.ny_top.specs.Ends.{WriteTold, Makes, OpenCause, ReadCause, EndsAs, TaskPoolFull, is_whole, is_unfailed, is_early};
+ghost use Rattle.ny_top.specs.Ends.{WriteTold, Makes, CutsShort, OpenCause, ReadCause, EndsAs, TaskPoolFull, is_whole, is_unfailed, is_early};
 ghost use Rattle.ny_top.specs.Views.{command_view};
 ghost use Rattle.ny_top.specs.Words.{IsInRange};
 
@@ -39,6 +39,7 @@ pub(crate) fn run_names<H: Host>(
     ensures write { result ≡ Status.WriteFault → Rose (H.state host.old).writes (H.state host.new).writes }
     ensures told { result ≡ Status.WriteFault → WriteTold (command_view command.entry) left.new (H.state host.old) (H.state host.new) }
     ensures memory { result ≡ Status.OutOfMemory → (H.state host.new).printed ≡ (H.state host.old).printed }
+    ensures cut { result ≡ Status.OutOfMemory → CutsShort (command_view command.entry) left.new (H.state host.old) (H.state host.new) }
     ensures early { IsTrue (is_early result) → SameOutput (H.state host.old) (H.state host.new) }
     ensures part { Makes (command_view command.entry) (H.state host.old) (H.state host.new) }
 {

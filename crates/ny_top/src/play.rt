@@ -4,7 +4,7 @@ ghost use Rattle.ny_io.specs.Faults.{Rose};
 ghost use Rattle.ny_io.specs.Host.{NoneFell, SameCounts, SameOutput};
 ghost use Rattle.ny_check.specs.Acceptance.{program_in};
 ghost use Rattle.ny_top.specs.Outcome.{HasTreeOutcome};
-ghost use Rattle.ny_top.specs.Ends.{FaultTold, ToldAs, EndsAs, CanBePlayed, MadeTree, CreateCause, CreateTold, TaskPoolFull, is_whole, is_unfailed, is_early};
+ghost use Rattle.ny_top.specs.Ends.{FaultTold, ToldAs, EndsAs, CanBePlayed, MadeTree, CutsTree, CreateCause, CreateTold, TaskPoolFull, is_whole, is_unfailed, is_early};
 ghost use Rattle.ny_top.specs.Views.{task_view};
 ghost use Rattle.ny_top.specs.Words.{IsInRange};
 ghost use Rattle.ny_top.specs.declared.words.Task.TheVariants.{Render as Plays};
@@ -20,7 +20,7 @@ use ny_pull::Engine;
 use std::alloc::Global;
 
 /// Plays an accepted text into a file, and leaves the engine that was pulled. All memory is taken before
-/// the file is created.
+/// the file is created, but for the parts that fall due.
 pub(crate) fn play<H: Host>(
     alloc: Global,
     host: &mut H,
@@ -44,6 +44,7 @@ pub(crate) fn play<H: Host>(
         ⊎ ToldAs (HasTreeOutcome (task_view (Plays render.entry)) accepted.tree left.new) (H.state host.old) (H.state host.new)
         ⊎ CreateTold (task_view (Plays render.entry)) (H.state host.old) (H.state host.new) }
     ensures memory { result ≡ Status.OutOfMemory → (H.state host.new).printed ≡ (H.state host.old).printed }
+    ensures cut { result ≡ Status.OutOfMemory → CutsTree (task_view (Plays render.entry)) accepted.tree left.new (H.state host.old) (H.state host.new) }
     ensures early { IsTrue (is_early result) → SameOutput (H.state host.old) (H.state host.new) }
     ensures part { MadeTree (task_view (Plays render.entry)) accepted.tree (H.state host.old) (H.state host.new) }
 {

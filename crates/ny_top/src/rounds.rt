@@ -17,6 +17,8 @@ pub(crate) enum RoundFault {
     Write,
     /// The pool was full, after so many pulls that gave samples.
     PoolFull { pulls: u64 },
+    /// Memory was missing for a part that fell due.
+    OutOfMemory,
 }
 
 /// Where rounds are made: the samples of a block, and the bytes of their frames.
@@ -92,8 +94,7 @@ fn round<H: Host>(
     let count = match engine.pull(alloc, 0, samples) {
         Ok(count) => count,
         Err(PullFault::PoolFull { pulls, .. }) => return Err(RoundFault::PoolFull { pulls }),
-        // Only a part that waits takes memory when it is pulled, and none waits.
-        Err(PullFault::OutOfMemory) => unreachable!(),
+        Err(PullFault::OutOfMemory) => return Err(RoundFault::OutOfMemory),
     };
     match write_frames(host, file, &samples[..count], bytes) {
         Ok(()) => Ok(()),
@@ -101,8 +102,8 @@ fn round<H: Host>(
     }
 }
 
-/// Pulls an engine's channel to its end, and writes the frames of each block as they come. No memory
-/// is taken.
+/// Pulls an engine's channel to its end, and writes the frames of each block as they come. Memory is
+/// taken for the parts that fall due, and for nothing else.
 pub(crate) fn rounds<H: Host>(
     alloc: Global,
     host: &mut H,

@@ -7,7 +7,7 @@ ghost use Rattle.ny_syntax.specs.Canonical.{canonical_height, canonical_text};
 ghost use Rattle.ny_check.specs.Acceptance.{program_in};
 ghost use Rattle.ny_top.specs.Reading.{refusal_text};
 ghost use Rattle.ny_top.specs.Outcome.{HasReadOutcome, HasTreeOutcome, refused};
-ghost use Rattle.ny_top.specs.Ends.{FaultTold, ToldAs, EndsAs, CanBePlayed, HasPiece, MadeTree, MadeText, CreateCause, CreateTold, TaskPoolFull, IsOutcome, is_whole, is_unfailed, is_early};
+ghost use Rattle.ny_top.specs.Ends.{FaultTold, ToldAs, EndsAs, CanBePlayed, HasPiece, MadeTree, MadeText, CutsTree, CutsText, CreateCause, CreateTold, TaskPoolFull, IsOutcome, is_whole, is_unfailed, is_early};
 ghost use Rattle.ny_top.specs.Views.{task_view};
 ghost use Rattle.ny_top.specs.Words.{IsInRange};
 
@@ -83,6 +83,7 @@ fn run_accepted<H: Host>(
         ⊎ ToldAs (HasTreeOutcome (task_view task.entry) accepted.tree left.new) (H.state host.old) (H.state host.new)
         ⊎ CreateTold (task_view task.entry) (H.state host.old) (H.state host.new) }
     ensures memory { result ≡ Status.OutOfMemory → (H.state host.new).printed ≡ (H.state host.old).printed }
+    ensures cut { result ≡ Status.OutOfMemory → CutsTree (task_view task.entry) accepted.tree left.new (H.state host.old) (H.state host.new) }
     ensures early { IsTrue (is_early result) → SameOutput (H.state host.old) (H.state host.new) }
     ensures part { MadeTree (task_view task.entry) accepted.tree (H.state host.old) (H.state host.new) }
 {
@@ -116,6 +117,7 @@ pub(crate) fn run_text<H: Host>(
         ⊎ ToldAs (HasReadOutcome (task_view task.entry) text.now left.new) (H.state host.old) (H.state host.new)
         ⊎ CreateTold (task_view task.entry) (H.state host.old) (H.state host.new) }
     ensures memory { result ≡ Status.OutOfMemory → (H.state host.new).printed ≡ (H.state host.old).printed }
+    ensures cut { result ≡ Status.OutOfMemory → CutsText (task_view task.entry) text.now left.new (H.state host.old) (H.state host.new) }
     ensures early { IsTrue (is_early result) → SameOutput (H.state host.old) (H.state host.new) }
     ensures part { MadeText (task_view task.entry) text.now (H.state host.old) (H.state host.new) }
 {

@@ -9,7 +9,7 @@ use Rattle.ny_top.specs.declared.status.Status.TheVariants.{PoolFull, WriteFault
 use Rattle.ny_top.proofs.FaultLines.{told_alone, told_from, append_known-nothing}
 use Rattle.ny_top.proofs.Parts.{made_part, made_whole, made_after}
 use Rattle.ny_top.proofs.Stages.{rose_from, quiet_then}
-use Rattle.ny_top.proofs.FileLemmas.{plays, fills, fills_told, only_full, ends_at, a_late}
+use Rattle.ny_top.proofs.FileLemmas.{plays, fills, fills_told, cuts, only_full, ends_at, a_late}
 use Rattle.ny_top.proofs.file.write_file.Goals as goal
 
 pub returns-in-Err-clause-told : goal.returns-in-Err-clause-told
@@ -113,3 +113,20 @@ returns-in-Err-PoolFull-clause-part g c =
     made_after to bytes old later (g.H.Host.state c.end_full.new.host)
     (made_part to bytes old (g.H.Host.state c.create.new.self) later part.0 c.in-Ok.ensures.created part.2)
     c.end_full.ensures.output.created
+
+pub returns-in-Err-OutOfMemory-clause-memory : goal.returns-in-Err-OutOfMemory-clause-memory
+returns-in-Err-OutOfMemory-clause-memory g c = λ is.
+    let ended = (rw c.in-Err-OutOfMemory.field-0-is at c.in-Err-OutOfMemory.ensures.fault) in
+    cuts (render_view c.args.render) c.args.engine.now c.write_parts.new.engine (g.H.Host.state c.args.host.now) (g.H.Host.state c.create.new.self) (g.H.Host.state c.write_parts.new.host)
+    ended.0 c.requires.new ended.1 c.in-Ok.ensures.created ended.2
+
+pub returns-in-Err-OutOfMemory-clause-unfailed : goal.returns-in-Err-OutOfMemory-clause-unfailed
+returns-in-Err-OutOfMemory-clause-unfailed g c = λ unfailed.
+    let ended = (rw c.in-Err-OutOfMemory.field-0-is at c.in-Err-OutOfMemory.ensures.fault) in
+    quiet_then (g.H.Host.state c.args.host.now) (g.H.Host.state c.create.new.self) (g.H.Host.state c.write_parts.new.host) c.in-Ok.ensures.quiet ended.3
+
+pub returns-in-Err-OutOfMemory-clause-part : goal.returns-in-Err-OutOfMemory-clause-part
+returns-in-Err-OutOfMemory-clause-part g c =
+    let part = c.in-Err-OutOfMemory.ensures.part in
+    made_part c.args.render.output.now (file_of c.args.render.rate c.args.engine.now.code) (g.H.Host.state c.args.host.now) (g.H.Host.state c.create.new.self) (g.H.Host.state c.write_parts.new.host)
+    part.0 c.in-Ok.ensures.created part.2

@@ -6,7 +6,7 @@ use Rattle.ny_top.specs.Ends.{FaultTold}
 use Rattle.ny_top.specs.Views.{command_view, task_view}
 use Rattle.ny_top.proofs.FaultLines.{told_from}
 use Rattle.ny_top.proofs.Outcomes.{ended_whole, whole_sound}
-use Rattle.ny_top.proofs.Stages.{handed_on, ends_read, write_told, makes_read, quiet_then, not_created, too_long_ends, too_long_told}
+use Rattle.ny_top.proofs.Stages.{handed_on, ends_read, write_told, makes_read, cuts_read, quiet_then, not_created, too_long_ends, too_long_told}
 use Rattle.ny_top.proofs.names.run_names.Goals as goal
 
 pub returns-in-Ok-read_all-clause-whole : goal.returns-in-Ok-read_all-clause-whole
@@ -106,3 +106,11 @@ returns-in-Err-Read-clause-told g c = λ is.
     let rose : Rose (old.reads from) (new.reads from) = search rules in
     let told : FaultTold (read_line from) mid new = subst (λ bytes. FaultTold bytes mid new) c.in-Ok.ensures.read (c.end_at-in-Err-Read.ensures.fault is) in
     inr (inr (inr (inl (rose, told_from (read_line from) old mid new c.in-Err-Read.ensures.counts.writes c.in-Err-Read.ensures.printed told))))
+
+pub returns-in-Ok-read_all-clause-cut : goal.returns-in-Ok-read_all-clause-cut
+returns-in-Ok-read_all-clause-cut g c = λ is.
+    let old = g.H.Host.state c.args.host.now in
+    let read = c.in-Ok-read_all.ensures in
+    let from = c.args.command.input.now in
+    cuts_read (command_view c.args.command) c.deref.result.now c.run_text.new.left old (g.H.Host.state c.read_all.new.host) (g.H.Host.state c.run_text.new.host)
+    read.output (handed_on old.files from c.in-Ok-read_all.text.items c.deref.result.now c.deref.ensures.value read.whole) (c.run_text.ensures.cut is)

@@ -2,7 +2,7 @@ use Rattle.std.proofs.Common.{inl, inr, refl}
 use Rattle.ny_top.specs.Outcome.{refused, form_line}
 use Rattle.ny_top.specs.Views.{render_view}
 use Rattle.ny_top.proofs.Outcomes.{ended_whole, whole_sound}
-use Rattle.ny_top.proofs.FileLemmas.{plays_tree, of_tree, of_no_tree, made_of_tree, ends_on, told_on, in_middle}
+use Rattle.ny_top.proofs.FileLemmas.{plays_tree, of_tree, of_no_tree, made_of_tree, cuts_of_tree, ends_on, told_on, in_middle}
 use Rattle.ny_top.proofs.MonoLemmas.{not_playable}
 use Rattle.ny_top.proofs.play.play.Goals as goal
 
@@ -42,3 +42,8 @@ returns-in-Ok-Some-clause-part g c =
 
 pub returns-in-Ok-Some-clause-piece : goal.returns-in-Ok-Some-clause-piece
 returns-in-Ok-Some-clause-piece g c = λ is. (_, plays_tree c.args.accepted.tree c.args.accepted.program _ c.requires.program (rw c.in-Ok-Some.field-0-is at c.in-Ok-Some.ensures.piece))
+
+pub returns-in-Ok-Some-clause-cut : goal.returns-in-Ok-Some-clause-cut
+returns-in-Ok-Some-clause-cut g c = λ is.
+    cuts_of_tree (render_view c.args.render) c.args.accepted.tree _ c.write_file-status.new.engine _ (g.H.Host.state c.args.host.now) (g.H.Host.state c.write_file-status.new.host)
+    (plays_tree c.args.accepted.tree c.args.accepted.program _ c.requires.program (rw c.in-Ok-Some.field-0-is at c.in-Ok-Some.ensures.piece)) refl (c.write_file-status.ensures.memory is)
