@@ -9,7 +9,7 @@ ghost use Rattle.ny_eval.specs.Framed.{names_in, HasGrown, AreBound, ArePassed};
 ghost use Rattle.ny_eval.specs.Parts.{count_in, parts_in, part_at, AreBelow};
 ghost use Rattle.ny_hands.specs.Frames.{AllHeld, bound_in, part_is, sounds_among};
 ghost use Rattle.ny_heap.specs.Steps.{last_stop_of};
-ghost use Rattle.ny_eval.specs.Turns.{Gains, AreNext, Starts, AreEnough, AreParts, AreInTurn};
+ghost use Rattle.ny_eval.specs.Turns.{Gains, AreNext, Starts, AreEnough, NextAreDue, AreParts, AreInTurn};
 ghost use Rattle.ny_hands.specs.Hands.{Hand, Comes, item};
 ghost use Rattle.ny_trace.specs.Heights.{Ranks, AreLow, Stands};
 ghost use Rattle.ny_trace.specs.Evaluates.{Evaluates, ValueTurn, OperationTurn, SignTurn, EffectTurn, BlockTurn, CallTurn, CueTurn, PartsTurn, MixTurn, SimTurn, NextTurn, SeqTurn, numbers_in};
@@ -621,10 +621,12 @@ fn due_parts(
     requires names { AllHeld heap.old (names_in frame.old) }
     requires few { length sounds.old.items ≤ count_in parts.now }
     requires stop { stop ≡ last_stop_of 0 sounds.old.items }
+    requires due { NextAreDue when.now block sounds.old.items }
     requires block { block ≡ heap.old.block }
     ensures next { OnOk result (AreNext p.now e.0 env.now (names_in frame.old) parts.now sounds.old.items heap.old heap.new sounds.new.items) }
     ensures few { OnOk result (length sounds.new.items ≤ count_in parts.now) }
     ensures enough { OnOk result (AreEnough when.now heap.new.block (count_in parts.now) sounds.new.items) }
+    ensures due { OnOk result (NextAreDue when.now block sounds.new.items) }
     ensures gains { Gains sounds.old.items heap.old heap.new sounds.new.items }
     ensures same { frame.new ≡ frame.old }
 {
@@ -668,6 +670,7 @@ fn first_block(
     ensures starts { OnOk result (Starts p.now e.0 env.now (names_in frame.old) parts.now heap.old heap.new sounds.new.items) }
     ensures few { OnOk result (length sounds.new.items ≤ count_in parts.now) }
     ensures enough { OnOk result (AreEnough when.now heap.new.block (count_in parts.now) sounds.new.items) }
+    ensures due { OnOk result (NextAreDue when.now block sounds.new.items) }
     ensures hand { Hand heap.old heap.new sounds.new.items }
     ensures same { frame.new ≡ frame.old }
 {
