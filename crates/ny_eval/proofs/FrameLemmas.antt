@@ -188,7 +188,7 @@ held_found {B} h is names v held found = by (last_of is (places_from 0 names)) (
 
 -- ---- bindings that are given up
 
-first_among : (b : NameId × Value Sound) (rest : Names) → sounds_among (b ∷ rest) ≡ sounds_of_values (b.1 ∷ []) ++ sounds_among rest
+pub first_among : (b : NameId × Value Sound) (rest : Names) → sounds_among (b ∷ rest) ≡ sounds_of_values (b.1 ∷ []) ++ sounds_among rest
 first_among (x, Number k) rest = refl
 first_among (x, SoundOf s) rest = refl
 

@@ -21,3 +21,7 @@ pub mod WaitingLemmas
 pub mod TimedLemmas
 pub mod TurnLemmas
 pub mod FitLemmas
+pub mod HandedLemmas
+pub mod KeptLemmas
+pub mod DuePartLemmas
+pub mod RevealedLemmas

@@ -1,5 +1,5 @@
 -- Parts of a sequence, one after the other.
-use Rattle.std.proofs.Common.{◌≡◌, ◌⊎◌, inl, inr, ℕ, zero, suc, ◌+◌, ◌-◌, ◌<◌, ◌≤◌, List, [], ◌∷◌, ◌++◌, length, map, Bool, false, nat_lt, refl, sym, ap, subst, ◌∙◌, arith}
+use Rattle.std.proofs.Common.{◌≡◌, ◌⊎◌, inl, inr, ℕ, zero, suc, ◌+◌, ◌-◌, ◌<◌, ◌≤◌, List, [], ◌∷◌, ◌++◌, length, map, Bool, true, false, nat_lt, refl, sym, ap, subst, ◌∙◌, arith}
 use Rattle.std.proofs.lemmas.Bool.Decides.{nat_tests}
 use Rattle.std.specs.List.{range_with_len}
 use Rattle.std.proofs.lemmas.List.{append-nil, append_assoc, length-append, map-append}
@@ -30,14 +30,14 @@ use Rattle.ny_hands.specs.Hands.{Hand, InHand, GivesUp}
 use Rattle.ny_hands.proofs.HandLemmas.{marks_append, begin_append, begin_first, begin_last, hand_none, hand_more}
 use Rattle.ny_hands.proofs.PlaceLemmas.{placed_len, hand_placed}
 use Rattle.ny_hands.proofs.SpendLemmas.{hand_brought}
-use Rattle.ny_trace.specs.Evaluates.{Trace, Part, NextTurn, NextsTurn, WaitsTurn, SeqTurn, Evaluates, times_in}
+use Rattle.ny_trace.specs.Evaluates.{Trace, Part, NextTurn, NextsTurn, WaitsTurn, SeqTurn, Evaluates, AreDue, times_in}
 use Rattle.ny_trace.specs.Laws.{KeepsFree}
 use Rattle.ny_eval.specs.Framed.{FrameState, names_in}
 use Rattle.ny_laws.specs.Complete.{HasOperands, NodesAreWhole}
 use Rattle.ny_eval.specs.declared.parts.Parts.{Parts}
 use Rattle.ny_eval.specs.declared.parts.Parts.TheVariants.{Listed, Counted}
 use Rattle.ny_eval.specs.Parts.{count_in, parts_in, part_at, AreBelow}
-use Rattle.ny_eval.specs.Turns.{Follows, Gains, AreNext, Starts, AreEnough, AreParts, RestTurn}
+use Rattle.ny_eval.specs.Turns.{Follows, Gains, AreNext, Starts, AreEnough, NextAreDue, AreParts, RestTurn}
 use Rattle.ny_eval.specs.Waiting.{parts_between, WaitAll}
 use Rattle.ny_eval.proofs.PartLemmas.{parts_all, part_below, part_held}
 use Rattle.ny_eval.proofs.EvalLemmas.{sound_hand}
@@ -160,8 +160,8 @@ none_waits : (code : Code) (env : Env) (ps : List Part) (old new : HeapState Bra
 none_waits code env ps old new [] none step = refl
 none_waits code env ps old new (q ∷ qs) none step = absurd (subst (λ (xs : List Part). WaitsTurn code env xs old new (q ∷ qs)) none step)
 
-pub seq_turn : (code : Code) (n e : ℕ) (env : Env) (names : Names) (parts : Parts) (t : Timing) (old mid new : HeapState Branch) (ss : List Sound) (s : Sound) → ((bound : Bound) → timed bound ≡ times_in names → t ≡ timing_of (meaning code e env bound)) → length ss ≤ count_in parts → Starts code n env names parts old mid ss → AreEnough t mid.block (count_in parts) ss → RestTurn code env (parts_between names parts (length ss) (count_in parts - length ss)) t ss mid new s → SeqTurn (Evaluates code n) code e (parts_in names parts) env names old new s
-seq_turn code n e env names parts t old mid new ss s when few starts enough rest = record {
+pub seq_turn : (code : Code) (n e : ℕ) (env : Env) (names : Names) (parts : Parts) (t : Timing) (old mid new : HeapState Branch) (ss : List Sound) (s : Sound) → ((bound : Bound) → timed bound ≡ times_in names → t ≡ timing_of (meaning code e env bound)) → length ss ≤ count_in parts → Starts code n env names parts old mid ss → AreEnough t mid.block (count_in parts) ss → NextAreDue t mid.block ss → RestTurn code env (parts_between names parts (length ss) (count_in parts - length ss)) t ss mid new s → SeqTurn (Evaluates code n) code e (parts_in names parts) env names old new s
+seq_turn code n e env names parts t old mid new ss s when few starts enough due rest = record {
   first = part_at names parts 0;
   now = parts_between names parts 1 (length others);
   later = parts_between names parts (length ss) (count_in parts - length ss);
@@ -180,6 +180,7 @@ seq_turn code n e env names parts t old mid new ss s when few starts enough rest
   nexts = starts.next.turn;
   waits = rest.waits.turn;
   when = when;
+  due = subst (λ b. AreDue (t.start + b) t.rate starts.brought.timing.stop others) (sym rest.waits.hand.counts.block) (subst (λ (xs : List Sound). NextAreDue t mid.block xs) list due);
   not_due = by_enough enough;
   made = subst (λ (xs : List Sound). MakesUnit rest.mid new Mix t xs (map waiting_of rest.waiting) (xs ++ sounds_of rest.waiting) s) list rest.made;
 }
@@ -255,6 +256,26 @@ late_enough t block count last b before old new ss is fails same stop p =
   where
     late : (x y : ℕ) → nat_lt x y ≡ false → y ≤ x
     late x y fails = grind (arith, nat_tests, fails)
+
+-- one more that is due
+due_then : (end : ℕ) (r : Rate) (stop : ℕ) (ss : List Sound) (s : Sound) → index_at (last_stop_of stop ss) r < end → AreDue end r stop ss → AreDue end r stop (ss ++ s ∷ [])
+due_then end r stop [] s now due = (now, tt)
+due_then end r stop (a ∷ ss) s now due = (due.0, due_then end r a.timing.stop ss s now due.1)
+
+next_due : (t : Timing) (block : ℕ) (ss : List Sound) (s : Sound) → index_at (last_stop_of 0 ss) t.rate < t.start + block → NextAreDue t block ss → NextAreDue t block (ss ++ s ∷ [])
+next_due t block [] s now due = tt
+next_due t block (a ∷ ss) s now due = due_then (t.start + block) t.rate a.timing.stop ss s now due
+
+pub due_more : (t : Timing) (block last : ℕ) (b : Bool) (ss more : List Sound) (s : Sound) → b ≡ nat_lt (index_at last t.rate) (t.start + block) → b ≡ true → last ≡ last_stop_of 0 ss → more ≡ ss ++ s ∷ [] → NextAreDue t block ss → NextAreDue t block more
+due_more t block last b ss more s is holds same list due =
+    subst (λ (xs : List Sound). NextAreDue t block xs) (sym list)
+    (next_due t block ss s (subst (λ m. index_at m t.rate < t.start + block) same (early (index_at last t.rate) (t.start + block) (sym is ∙ holds))) due)
+  where
+    early : (x y : ℕ) → nat_lt x y ≡ true → x < y
+    early x y holds = grind (arith, nat_tests, holds)
+
+pub due_first : (t : Timing) (block : ℕ) (ss : List Sound) (s : Sound) → ss ≡ s ∷ [] → NextAreDue t block ss
+due_first t block ss s list = subst (λ (xs : List Sound). NextAreDue t block xs) (sym list) tt
 
 -- the same, where a list was given more room
 pub gains_in : (before : List Sound) (old new : HeapState Branch) (ss items : List Sound) → items ≡ ss → Gains before old new ss → Gains before old new items

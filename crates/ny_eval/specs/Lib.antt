@@ -5,6 +5,7 @@ pub mod Mixing
 pub mod Opened
 pub mod Parts
 pub mod Ready
+pub mod Revealed
 pub mod Driven
 pub mod Playing
 pub mod Shapes

@@ -1,6 +1,6 @@
 -- The parts of a mix: several expressions in the same names, or one expression so many times, in which a name stands for 0, 1, and so on.
 use Rattle.std.specs.Prelude.{ℕ, ◌<◌, List, length, get_or}
-use Rattle.ny_check.specs.Code.{Code, AllBelow}
+use Rattle.ny_check.specs.Code.{AllBelow}
 use Rattle.ny_hands.specs.Frames.{Names}
 use Rattle.ny_trace.specs.Evaluates.{Part, parts_of, counted_names, counted_parts}
 use Rattle.ny_eval.specs.declared.parts.Parts.{Parts}

@@ -16,7 +16,7 @@ use Rattle.ny_hands.specs.declared.branch.Branch.{Branch}
 use Rattle.ny_hands.specs.Calls.{MakesUnit, Places, Brings}
 use Rattle.ny_hands.specs.Frames.{Names}
 use Rattle.ny_hands.specs.Hands.{Hand}
-use Rattle.ny_trace.specs.Evaluates.{Part, NextsTurn, Evaluates}
+use Rattle.ny_trace.specs.Evaluates.{Part, NextsTurn, Evaluates, AreDue}
 use Rattle.ny_eval.specs.declared.parts.Parts.{Parts}
 use Rattle.ny_eval.specs.declared.parts.Parts.TheVariants.{Listed, Counted}
 use Rattle.ny_eval.specs.Parts.{part_at}
@@ -53,6 +53,11 @@ pub record Starts (code : Code) (n : ℕ) (env : Env) (names : Names) (parts : P
 -- of so many parts these are all, or the next one lies behind the first block of a sequence that is heard at `t`
 abbrev pub AreEnough : Timing → ℕ → ℕ → List Sound → Type 0
 AreEnough t block count ss = (length ss ≡ count) ⊎ (t.start + block ≤ index_at (last_stop_of 0 ss) t.rate)
+
+-- each of these but the first follows one whose stop has its place in the first block of a sequence that is heard at `t`
+abbrev pub NextAreDue : Timing → ℕ → List Sound → Type 0
+NextAreDue t block [] = Unit {0}
+NextAreDue t block (s ∷ ss) = AreDue (t.start + block) t.rate s.timing.stop ss
 
 -- one unit over the parts that are there, and over branches for those that wait
 pub record RestTurn (code : Code) (env : Env) (later : List Part) (t : Timing) (ss : List Sound) (old new : HeapState Branch) (s : Sound) : Type 0 where

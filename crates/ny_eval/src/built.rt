@@ -61,11 +61,8 @@ fn built_node(p: &Program, e: ExprId, known: &[bool]) -> bool
 {
     match p.node(e) {
         Node::Number(_) | Node::Local(_) | Node::Global(_) => true,
-        Node::Div(a, _)
-        | Node::Neg(a)
-        | Node::Not(a)
-        | Node::Cue(a)
-        | Node::Repeat(_, _, _, a) => known_of(known, *a),
+        Node::Div(a, _) | Node::Neg(a) | Node::Not(a) | Node::Cue(a) | Node::Repeat(_, _, _, a) =>
+            known_of(known, *a),
         Node::Pair(_, a, b) | Node::Compare(_, a, b) | Node::And(a, b) | Node::Or(a, b) => {
             both(known_of(known, *a), known_of(known, *b))
         }

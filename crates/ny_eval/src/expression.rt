@@ -1,4 +1,4 @@
-ghost use Rattle.std.specs.Prelude.{◌≡◌, ℕ, ◌+◌, ◌*◌, ◌<◌, ◌≤◌, max, length, take, true, if◌then◌else◌, [], ◌∷◌, IfOk, OnErr, OnOk, vec_capacity};
+ghost use Rattle.std.specs.Prelude.{◌≡◌, ℕ, ◌+◌, ◌*◌, ◌<◌, ◌≤◌, max, length, take, if◌then◌else◌, [], ◌∷◌, IfOk, OnErr, OnOk, vec_capacity};
 ghost use Rattle.ny_check.specs.Code.{AllBelow, BindsBelow, IsChangeBelow, function_at};
 ghost use Rattle.ny_check.specs.Families.{changed_env};
 ghost use Rattle.ny_check.specs.Values.{scalars_of, number_of};
@@ -9,7 +9,7 @@ ghost use Rattle.ny_eval.specs.Framed.{names_in, HasGrown, AreBound, ArePassed};
 ghost use Rattle.ny_eval.specs.Parts.{count_in, parts_in, part_at, AreBelow};
 ghost use Rattle.ny_hands.specs.Frames.{AllHeld, bound_in, part_is, sounds_among};
 ghost use Rattle.ny_heap.specs.Steps.{last_stop_of};
-ghost use Rattle.ny_eval.specs.Turns.{Gains, AreNext, Starts, AreEnough, AreParts, AreInTurn};
+ghost use Rattle.ny_eval.specs.Turns.{Gains, AreNext, Starts, AreEnough, NextAreDue, AreParts, AreInTurn};
 ghost use Rattle.ny_hands.specs.Hands.{Hand, Comes, item};
 ghost use Rattle.ny_trace.specs.Heights.{Ranks, AreLow, Stands};
 ghost use Rattle.ny_trace.specs.Evaluates.{Evaluates, ValueTurn, OperationTurn, SignTurn, EffectTurn, BlockTurn, CallTurn, CueTurn, PartsTurn, MixTurn, SimTurn, NextTurn, SeqTurn, numbers_in};
@@ -621,10 +621,12 @@ fn due_parts(
     requires names { AllHeld heap.old (names_in frame.old) }
     requires few { length sounds.old.items ≤ count_in parts.now }
     requires stop { stop ≡ last_stop_of 0 sounds.old.items }
+    requires due { NextAreDue when.now block sounds.old.items }
     requires block { block ≡ heap.old.block }
     ensures next { OnOk result (AreNext p.now e.0 env.now (names_in frame.old) parts.now sounds.old.items heap.old heap.new sounds.new.items) }
     ensures few { OnOk result (length sounds.new.items ≤ count_in parts.now) }
     ensures enough { OnOk result (AreEnough when.now heap.new.block (count_in parts.now) sounds.new.items) }
+    ensures due { OnOk result (NextAreDue when.now block sounds.new.items) }
     ensures gains { Gains sounds.old.items heap.old heap.new sounds.new.items }
     ensures same { frame.new ≡ frame.old }
 {
@@ -668,6 +670,7 @@ fn first_block(
     ensures starts { OnOk result (Starts p.now e.0 env.now (names_in frame.old) parts.now heap.old heap.new sounds.new.items) }
     ensures few { OnOk result (length sounds.new.items ≤ count_in parts.now) }
     ensures enough { OnOk result (AreEnough when.now heap.new.block (count_in parts.now) sounds.new.items) }
+    ensures due { OnOk result (NextAreDue when.now block sounds.new.items) }
     ensures hand { Hand heap.old heap.new sounds.new.items }
     ensures same { frame.new ≡ frame.old }
 {
@@ -678,7 +681,9 @@ fn first_block(
     let sound = brought(alloc, first, env.sound_rate, heap)?;
     let stop = stop_of(&sound);
     sounds.push_reserved(sound);
-    Ok(due_parts(alloc, p, e, parts, when, block, stop, env, frame, sounds, heap)?)
+    Ok(due_parts(
+        alloc, p, e, parts, when, block, stop, env, frame, sounds, heap,
+    )?)
 }
 
 /// Parts one after another, in an environment: those whose places lie in the first block are evaluated, and the others wait.
@@ -708,7 +713,9 @@ fn in_turn(
     let when = whole_timing(alloc, p, e, &env, frame)?;
     let block = heap.block();
     let mut there = Vec::new(alloc);
-    match first_block(alloc, p, e, &parts, &when, block, &env, frame, &mut there, heap) {
+    match first_block(
+        alloc, p, e, &parts, &when, block, &env, frame, &mut there, heap,
+    ) {
         Ok(()) => Ok(with_rest(alloc, p, &parts, there, when, &env, frame, heap)?),
         Err(fault) => {
             give_up_all(VecDeque::from(there), heap);

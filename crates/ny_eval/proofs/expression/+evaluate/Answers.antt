@@ -1,4 +1,4 @@
-use Rattle.std.proofs.Common.{◌≡◌, length-append, rules, ◌+◌, ◌<◌, true, List, [], ◌∷◌, length, take, get_or, arith, refl, sym, ap, subst, ◌∙◌, ◌++◌, inl, ◌-◌}
+use Rattle.std.proofs.Common.{length-append, rules, ◌+◌, ◌<◌, List, [], ◌∷◌, length, take, get_or, arith, refl, sym, ap, subst, ◌∙◌, ◌++◌, inl, ◌-◌}
 use Rattle.std.proofs.lemmas.Int.{ints}
 use Rattle.std.proofs.lemmas.List.{drop_more}
 use Rattle.ny_hands.specs.Hands.{GivesUp, Hand}
@@ -20,11 +20,11 @@ use Rattle.ny_eval.proofs.EvalLemmas.{sound_hand, value_hand, values_hand, first
 use Rattle.ny_eval.proofs.BodyLemmas.{below_at, empty_frame, empty_held, empty_count, bound_none, bound_step, bound_grown, passed_none, passed_step, passed_grown, keep_refused, grown_still, held_grown, body_hand, leave_within, leave_hands, left_same, left_refused, block_turn, call_turn, if_ok}
 use Rattle.ny_eval.proofs.ShapeLemmas.{effect_single, effect_made}
 use Rattle.ny_eval.proofs.PartLemmas.{parts_all, expr_below, part_turn, number_in_hand, number_given_up, number_grown, counted_turn, parts_none, parts_refused, parts_more, below_table}
-use Rattle.ny_eval.proofs.TurnLemmas.{part_hand, next_turn, follows_hand, next_none, next_at, next_refused, last_behind, late_enough, gains_in, gained_hand, starts_with, held_timed, seq_turn, some_parts}
+use Rattle.ny_eval.proofs.TurnLemmas.{part_hand, next_turn, follows_hand, next_none, next_at, next_refused, last_behind, late_enough, due_more, due_first, gains_in, gained_hand, starts_with, held_timed, seq_turn, some_parts}
 use Rattle.ny_heap.specs.declared.sound.Sound.{Sound}
 use Rattle.ny_heap.specs.Steps.{last_stop_of}
 use Rattle.ny_eval.proofs.WaitingLemmas.{hand_still}
-use Rattle.ny_eval.specs.Turns.{RestTurn, AreParts}
+use Rattle.ny_eval.specs.Turns.{RestTurn, NextAreDue, AreParts}
 use Rattle.ny_eval.specs.Waiting.{parts_between}
 use Rattle.ny_eval.proofs.FitLemmas.{seq_fits}
 use Rattle.ny_resolve.specs.declared.builtin.Order.TheVariants.{InTurn}
@@ -611,6 +611,7 @@ due_parts-loop-k-init t c = record {
   count = c.len-k.ensures ∙ c.args.sounds.now.ok.0;
   few = c.requires.few;
   last = c.requires.stop;
+  due = c.requires.due;
   same = refl;
 }
 
@@ -622,6 +623,7 @@ due_parts-loop-k-preserved t c =
       count = omega (arith, c.loop-k.invariant.count, ap length list, length-append c.loop-k.sounds.items (c.in_ok-sound.sound ∷ []));
       few = omega (arith, c.count-k-end.ensures, c.loop-k.invariant.count, ap length list, length-append c.loop-k.sounds.items (c.in_ok-sound.sound ∷ []));
       last = c.stop_of-last.ensures ∙ last_behind c.loop-k.sounds.items c.push_reserved.new.self.items c.in_ok-sound.sound list;
+      due = due_more c.args.when.now c.args.block c.loop-k.last c.is_due.result c.loop-k.sounds.items c.push_reserved.new.self.items c.in_ok-sound.sound c.is_due.ensures c.if-not-is_due.false c.loop-k.invariant.last list c.loop-k.invariant.due;
       same = c.next_part.ensures.same ∙ c.loop-k.invariant.same;
     }
 
@@ -645,11 +647,6 @@ due_parts-returns-in_err-sound-clause-gains t c =
 pub first_block-part-requires : goal.first_block-part-requires
 first_block-part-requires t c = (omega (arith, c.decreases), (c.requires.inside, (c.requires.below, (c.requires.some, c.requires.names))))
 
-pub first_block-due_parts-requires : goal.first_block-due_parts-requires
-first_block-due_parts-requires t c =
-    (omega (arith, c.decreases), (c.requires.inside, (c.requires.below, ((held_after c.args.heap.now c.brought.new.heap (c.in_ok-sound.sound ∷ []) c.args.frame.now c.part.new.frame c.lawful.ensures (hand_brought c.args.heap.now c.part.new.heap c.brought.new.heap c.args.env.now.sound_rate c.in_ok-first.first c.in_ok-sound.sound [] c.lawful.ensures (part_hand c.args.p.now c.program_laws.ensures.ordered c.program_laws.ensures.free c.args.e.0 c.in_ok-copy.field-0 (names_in c.args.frame.now) c.args.parts.now 0 c.args.heap.now c.part.new.heap c.in_ok-first.first c.requires.inside c.requires.some c.requires.below c.lawful.ensures c.requires.names c.in_ok-first.ensures.evaluates) c.in_ok-sound.ensures.brings) c.part.ensures.same c.requires.names), ((omega (arith, c.requires.some, ap length (c.push_reserved.ensures.items ∙ ap (λ (xs : List Sound). xs ++ c.in_ok-sound.sound ∷ []) (c.reserve.ensures.items ∙ c.requires.none)))), ((c.stop_of-stop.ensures ∙ sym (ap (last_stop_of 0) (c.push_reserved.ensures.items ∙ ap (λ (xs : List Sound). xs ++ c.in_ok-sound.sound ∷ []) (c.reserve.ensures.items ∙ c.requires.none)))), (let hand = (hand_brought c.args.heap.now c.part.new.heap c.brought.new.heap c.args.env.now.sound_rate c.in_ok-first.first c.in_ok-sound.sound [] c.lawful.ensures (part_hand c.args.p.now c.program_laws.ensures.ordered c.program_laws.ensures.free c.args.e.0 c.in_ok-copy.field-0 (names_in c.args.frame.now) c.args.parts.now 0 c.args.heap.now c.part.new.heap c.in_ok-first.first c.requires.inside c.requires.some c.requires.below c.lawful.ensures c.requires.names c.in_ok-first.ensures.evaluates) c.in_ok-sound.ensures.brings) in
-    c.requires.block ∙ sym hand.counts.block)))))))
-
 pub first_block-returns-in_err-reserve-clause-hand : goal.first_block-returns-in_err-reserve-clause-hand
 first_block-returns-in_err-reserve-clause-hand t c = hand_still c.args.heap.now c.args.heap.now c.args.heap.now [] c.reserve.new.self.items refl (c.reserve.ensures.items ∙ c.requires.none) (hand_none c.args.heap.now c.lawful.ensures)
 
@@ -660,22 +657,42 @@ pub first_block-returns-in_err-first-clause-hand : goal.first_block-returns-in_e
 first_block-returns-in_err-first-clause-hand t c = hand_still c.args.heap.now c.part.new.heap c.part.new.heap [] c.reserve.new.self.items refl (c.reserve.ensures.items ∙ c.requires.none) c.in_err-first.ensures.refused
 
 pub first_block-brought-requires : goal.first_block-brought-requires
-first_block-brought-requires t c = record { hands = all_in_hand c.args.heap.now c.part.new.heap (c.in_ok-first.first ∷ []) c.lawful.ensures (part_hand c.args.p.now c.program_laws.ensures.ordered c.program_laws.ensures.free c.args.e.0 c.in_ok-copy.field-0 (names_in c.args.frame.now) c.args.parts.now 0 c.args.heap.now c.part.new.heap c.in_ok-first.first c.requires.inside c.requires.some c.requires.below c.lawful.ensures c.requires.names c.in_ok-first.ensures.evaluates) }
+first_block-brought-requires t c =
+    let one = part_hand c.args.p.now c.program_laws.ensures.ordered c.program_laws.ensures.free c.args.e.0 c.in_ok-copy.field-0 (names_in c.args.frame.now) c.args.parts.now 0 c.args.heap.now c.part.new.heap c.in_ok-first.first c.requires.inside c.requires.some c.requires.below c.lawful.ensures c.requires.names c.in_ok-first.ensures.evaluates in
+    record { hands = all_in_hand c.args.heap.now c.part.new.heap (c.in_ok-first.first ∷ []) c.lawful.ensures one }
 
 pub first_block-returns-in_err-sound-clause-hand : goal.first_block-returns-in_err-sound-clause-hand
 first_block-returns-in_err-sound-clause-hand t c =
+    let one = part_hand c.args.p.now c.program_laws.ensures.ordered c.program_laws.ensures.free c.args.e.0 c.in_ok-copy.field-0 (names_in c.args.frame.now) c.args.parts.now 0 c.args.heap.now c.part.new.heap c.in_ok-first.first c.requires.inside c.requires.some c.requires.below c.lawful.ensures c.requires.names c.in_ok-first.ensures.evaluates in
     hand_still c.args.heap.now c.brought.new.heap c.brought.new.heap [] c.reserve.new.self.items refl (c.reserve.ensures.items ∙ c.requires.none)
-    (all_given_up c.args.heap.now c.part.new.heap c.brought.new.heap (c.in_ok-first.first ∷ []) c.lawful.ensures (part_hand c.args.p.now c.program_laws.ensures.ordered c.program_laws.ensures.free c.args.e.0 c.in_ok-copy.field-0 (names_in c.args.frame.now) c.args.parts.now 0 c.args.heap.now c.part.new.heap c.in_ok-first.first c.requires.inside c.requires.some c.requires.below c.lawful.ensures c.requires.names c.in_ok-first.ensures.evaluates) c.in_err-sound.ensures.gives_up)
+    (all_given_up c.args.heap.now c.part.new.heap c.brought.new.heap (c.in_ok-first.first ∷ []) c.lawful.ensures one c.in_err-sound.ensures.gives_up)
+
+pub first_block-due_parts-requires : goal.first_block-due_parts-requires
+first_block-due_parts-requires t c =
+    let one = part_hand c.args.p.now c.program_laws.ensures.ordered c.program_laws.ensures.free c.args.e.0 c.in_ok-copy.field-0 (names_in c.args.frame.now) c.args.parts.now 0 c.args.heap.now c.part.new.heap c.in_ok-first.first c.requires.inside c.requires.some c.requires.below c.lawful.ensures c.requires.names c.in_ok-first.ensures.evaluates in
+    let hand = hand_brought c.args.heap.now c.part.new.heap c.brought.new.heap c.args.env.now.sound_rate c.in_ok-first.first c.in_ok-sound.sound [] c.lawful.ensures one c.in_ok-sound.ensures.brings in
+    let list = c.push_reserved.ensures.items ∙ ap (λ (xs : List Sound). xs ++ c.in_ok-sound.sound ∷ []) (c.reserve.ensures.items ∙ c.requires.none) in
+    let names = held_after c.args.heap.now c.brought.new.heap (c.in_ok-sound.sound ∷ []) c.args.frame.now c.part.new.frame c.lawful.ensures hand c.part.ensures.same c.requires.names in
+    (omega (arith, c.decreases), (c.requires.inside, (c.requires.below, (names, (omega (arith, c.requires.some, ap length list), (c.stop_of-stop.ensures ∙ sym (ap (last_stop_of 0) list), (due_first c.args.when.now c.args.block c.push_reserved.new.self.items c.in_ok-sound.sound list, c.requires.block ∙ sym hand.counts.block)))))))
 
 pub first_block-returns-clause-starts : goal.first_block-returns-clause-starts
 first_block-returns-clause-starts t c =
-    starts_with c.args.p.now c.args.e.0 c.args.env.now c.in_ok-copy.field-0 c.args.frame.now c.part.new.frame c.args.parts.now c.args.heap.now c.part.new.heap c.brought.new.heap c.due_parts.new.heap c.in_ok-first.first c.in_ok-sound.sound c.push_reserved.new.self.items c.due_parts.new.sounds.items c.in_ok-copy.ensures c.part.ensures.same (c.push_reserved.ensures.items ∙ ap (λ (xs : List Sound). xs ++ c.in_ok-sound.sound ∷ []) (c.reserve.ensures.items ∙ c.requires.none)) c.in_ok-first.ensures.evaluates c.in_ok-sound.ensures.brings c.in_ok-due_parts.ensures.next
+    let list = c.push_reserved.ensures.items ∙ ap (λ (xs : List Sound). xs ++ c.in_ok-sound.sound ∷ []) (c.reserve.ensures.items ∙ c.requires.none) in
+    starts_with c.args.p.now c.args.e.0 c.args.env.now c.in_ok-copy.field-0 c.args.frame.now c.part.new.frame c.args.parts.now c.args.heap.now c.part.new.heap c.brought.new.heap c.due_parts.new.heap c.in_ok-first.first c.in_ok-sound.sound c.push_reserved.new.self.items c.due_parts.new.sounds.items c.in_ok-copy.ensures c.part.ensures.same list c.in_ok-first.ensures.evaluates c.in_ok-sound.ensures.brings c.in_ok-due_parts.ensures.next
 
 pub first_block-returns-in_err-due_parts-clause-hand : goal.first_block-returns-in_err-due_parts-clause-hand
-first_block-returns-in_err-due_parts-clause-hand t c = gained_hand c.args.heap.now c.brought.new.heap c.due_parts.new.heap c.push_reserved.new.self.items c.due_parts.new.sounds.items (subst (λ (xs : List Sound). Hand c.args.heap.now c.brought.new.heap xs) (sym (c.push_reserved.ensures.items ∙ ap (λ (xs : List Sound). xs ++ c.in_ok-sound.sound ∷ []) (c.reserve.ensures.items ∙ c.requires.none))) (hand_brought c.args.heap.now c.part.new.heap c.brought.new.heap c.args.env.now.sound_rate c.in_ok-first.first c.in_ok-sound.sound [] c.lawful.ensures (part_hand c.args.p.now c.program_laws.ensures.ordered c.program_laws.ensures.free c.args.e.0 c.in_ok-copy.field-0 (names_in c.args.frame.now) c.args.parts.now 0 c.args.heap.now c.part.new.heap c.in_ok-first.first c.requires.inside c.requires.some c.requires.below c.lawful.ensures c.requires.names c.in_ok-first.ensures.evaluates) c.in_ok-sound.ensures.brings)) c.due_parts.ensures.gains
+first_block-returns-in_err-due_parts-clause-hand t c =
+    let one = part_hand c.args.p.now c.program_laws.ensures.ordered c.program_laws.ensures.free c.args.e.0 c.in_ok-copy.field-0 (names_in c.args.frame.now) c.args.parts.now 0 c.args.heap.now c.part.new.heap c.in_ok-first.first c.requires.inside c.requires.some c.requires.below c.lawful.ensures c.requires.names c.in_ok-first.ensures.evaluates in
+    let hand = hand_brought c.args.heap.now c.part.new.heap c.brought.new.heap c.args.env.now.sound_rate c.in_ok-first.first c.in_ok-sound.sound [] c.lawful.ensures one c.in_ok-sound.ensures.brings in
+    let list = c.push_reserved.ensures.items ∙ ap (λ (xs : List Sound). xs ++ c.in_ok-sound.sound ∷ []) (c.reserve.ensures.items ∙ c.requires.none) in
+    gained_hand c.args.heap.now c.brought.new.heap c.due_parts.new.heap c.push_reserved.new.self.items c.due_parts.new.sounds.items (subst (λ (xs : List Sound). Hand c.args.heap.now c.brought.new.heap xs) (sym list) hand) c.due_parts.ensures.gains
 
 pub first_block-returns-clause-hand : goal.first_block-returns-clause-hand
-first_block-returns-clause-hand t c = gained_hand c.args.heap.now c.brought.new.heap c.due_parts.new.heap c.push_reserved.new.self.items c.due_parts.new.sounds.items (subst (λ (xs : List Sound). Hand c.args.heap.now c.brought.new.heap xs) (sym (c.push_reserved.ensures.items ∙ ap (λ (xs : List Sound). xs ++ c.in_ok-sound.sound ∷ []) (c.reserve.ensures.items ∙ c.requires.none))) (hand_brought c.args.heap.now c.part.new.heap c.brought.new.heap c.args.env.now.sound_rate c.in_ok-first.first c.in_ok-sound.sound [] c.lawful.ensures (part_hand c.args.p.now c.program_laws.ensures.ordered c.program_laws.ensures.free c.args.e.0 c.in_ok-copy.field-0 (names_in c.args.frame.now) c.args.parts.now 0 c.args.heap.now c.part.new.heap c.in_ok-first.first c.requires.inside c.requires.some c.requires.below c.lawful.ensures c.requires.names c.in_ok-first.ensures.evaluates) c.in_ok-sound.ensures.brings)) c.due_parts.ensures.gains
+first_block-returns-clause-hand t c =
+    let one = part_hand c.args.p.now c.program_laws.ensures.ordered c.program_laws.ensures.free c.args.e.0 c.in_ok-copy.field-0 (names_in c.args.frame.now) c.args.parts.now 0 c.args.heap.now c.part.new.heap c.in_ok-first.first c.requires.inside c.requires.some c.requires.below c.lawful.ensures c.requires.names c.in_ok-first.ensures.evaluates in
+    let hand = hand_brought c.args.heap.now c.part.new.heap c.brought.new.heap c.args.env.now.sound_rate c.in_ok-first.first c.in_ok-sound.sound [] c.lawful.ensures one c.in_ok-sound.ensures.brings in
+    let list = c.push_reserved.ensures.items ∙ ap (λ (xs : List Sound). xs ++ c.in_ok-sound.sound ∷ []) (c.reserve.ensures.items ∙ c.requires.none) in
+    gained_hand c.args.heap.now c.brought.new.heap c.due_parts.new.heap c.push_reserved.new.self.items c.due_parts.new.sounds.items (subst (λ (xs : List Sound). Hand c.args.heap.now c.brought.new.heap xs) (sym list) hand) c.due_parts.ensures.gains
 
 -- ---- parts one after another
 
@@ -713,6 +730,7 @@ in_turn-returns-clause-refused t c =
 pub in_turn-returns-in-Ok-clause-turn : goal.in_turn-returns-in-Ok-clause-turn
 in_turn-returns-in-Ok-clause-turn t c =
     seq_turn c.args.p.now c.args.e.0 c.args.e.0 c.args.env (names_in c.args.frame.now) c.args.parts c.in_ok-when.when c.args.heap.now c.first_block.new.heap c.with_rest.new.heap c.first_block.new.sounds.items c.in_ok-with_rest-in-Ok.field-0 c.in_ok-when.ensures.when c.in-Ok.ensures.few c.in-Ok.ensures.starts c.in-Ok.ensures.enough
+    (subst (λ b. NextAreDue c.in_ok-when.when b c.first_block.new.sounds.items) (c.block-block.ensures ∙ sym c.first_block.ensures.hand.counts.block) c.in-Ok.ensures.due)
     (subst (λ (r : FrameState). RestTurn c.args.p.now c.args.env (parts_between (names_in r) c.args.parts (length c.first_block.new.sounds.items) (count_in c.args.parts - length c.first_block.new.sounds.items)) c.in_ok-when.when c.first_block.new.sounds.items c.first_block.new.heap c.with_rest.new.heap c.in_ok-with_rest-in-Ok.field-0) c.first_block.ensures.same c.in_ok-with_rest-in-Ok.ensures.turn)
 
 -- ---- parts in an order

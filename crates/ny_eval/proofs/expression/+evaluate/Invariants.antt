@@ -3,7 +3,7 @@ use Rattle.ny_check.specs.Code.{BindsBelow}
 use Rattle.ny_heap.specs.Steps.{last_stop_of}
 use Rattle.ny_eval.specs.Framed.{names_in, AreBound}
 use Rattle.ny_eval.specs.Parts.{count_in}
-use Rattle.ny_eval.specs.Turns.{AreNext}
+use Rattle.ny_eval.specs.Turns.{AreNext, NextAreDue}
 use Rattle.ny_eval.proofs.BodyLemmas.{PassedSoFar}
 use Rattle.ny_eval.proofs.PartLemmas.{PartsSoFar}
 use Rattle.ny_eval.proofs.expression.+evaluate.Given as goal
@@ -90,5 +90,6 @@ invariant-due_parts-loop-k l = record {
   count : l.k ≡ length l.sounds.items;
   few : length l.sounds.items ≤ count_in l.parts;
   last : l.last ≡ last_stop_of 0 l.sounds.items;
+  due : NextAreDue l.when l.fn.block l.sounds.items;
   same : l.frame ≡ l.fn.frame;
 }
