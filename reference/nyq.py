@@ -6,6 +6,8 @@ forms that `nyq` doesn't play yet. Each section below has one part of the rules.
 whole ticks throughout, as plain integers.
 """
 
+import bisect
+import heapq
 import struct
 import sys
 import threading
@@ -780,7 +782,7 @@ class Acceptance:
         return total
 
 
-NOT_BUILT = ("seq", "seqrep", "vector")
+NOT_BUILT = ("vector",)
 
 
 def is_built(tree, acceptance):
@@ -854,6 +856,8 @@ class Env:
 
     def least_inverse(self, t):
         """The least x whose time through the steps is at least t, or the horizon; the steps never fall."""
+        if not self.steps:
+            return clampt(t)
         if self.through_steps(HORIZON) < t:
             return HORIZON
         low, high = 0, HORIZON
@@ -938,6 +942,14 @@ class Unit:
     def __init__(self, number, kind, rate, start, length, inputs):
         self.number, self.kind, self.rate, self.start, self.length, self.inputs = number, kind, rate, start, length, inputs
         self.filled = 0
+        self.passed = 0                             # how many inputs, from the first on, have nothing left to read
+        self.offsets = [given.offset for given in inputs]
+        assert self.offsets == sorted(self.offsets)
+        self.last_capture = {captured: n for n, given in enumerate(inputs) for captured in given.captured}
+
+    def come(self, block):
+        """How many inputs are revealed, for offsets never fall. All others wait."""
+        return bisect.bisect_left(self.offsets, (self.filled + 1) * block)
 
     def need(self, given, blocks, block):
         """How many samples of an input are taken after so many blocks."""
@@ -1059,9 +1071,18 @@ def comb(x, delay, gain):
 
 
 def mixed(parts, start, end):
+    """At an index the parts that are heard there are added, in their order; all others are 0 there."""
+    coming = sorted(range(len(parts)), key=lambda k: parts[k].start, reverse=True)
+    heard, edge = [], start
     for m in range(start, end):
+        if m == edge:
+            while coming and parts[coming[-1]].start <= m:
+                heard.append(coming.pop())
+            heard = sorted(k for k in heard if parts[k].end() > m)
+            edge = min([parts[k].end() for k in heard] + [parts[k].start for k in coming[-1:]] + [end])
+            now = [parts[k] for k in heard]
         total = 0
-        for part in parts:
+        for part in now:
             total = sat_sample(total + part.value(m))
         yield total
 
@@ -1401,7 +1422,7 @@ class Engine:
         meaning = Meaning(tree, acceptance)
         self.channels = meaning.channels(rate)
         self.units, self.block, self.pool = meaning.units, block, pool
-        self.outside = {c.unit.number for c in self.channels if c.unit is not None}
+        self.outside = [c.unit for c in self.channels if c.unit is not None]
         self.pulled = [0] * len(self.channels)      # samples that the pulls of each channel took
         self.pulls = self.fills = self.peak = 0
         self.few = sum(self.blocks(x) for x in self.units) < pool
@@ -1418,42 +1439,46 @@ class Engine:
 
     def least_positions(self):
         """For each unit that is held, the least position of its readers. What reads a unit comes after it."""
-        least = {}
+        least, next_units = {}, []                  # the numbers of the units to look at, the greatest first, below 0
 
         def reads(unit, position):
+            if unit.number not in least:
+                heapq.heappush(next_units, -unit.number)
             least[unit.number] = min(position, least.get(unit.number, position))
-        for unit in reversed(self.units):
-            if unit.number in self.outside and self.open(unit):
+        for unit in self.outside:
+            if self.open(unit):
                 reads(unit, self.computed(unit))
-            if unit.number not in least or not self.open(unit):
+        while next_units:
+            unit = self.units[-heapq.heappop(next_units)]
+            if not self.open(unit):
                 continue
-            for given in unit.inputs:
-                if given.offset < (unit.filled + 1) * self.block:
-                    need = unit.need(given, unit.filled, self.block)
-                    if given.unit is not None and need < given.visible:
-                        reads(given.unit, need)
-                else:
-                    for captured in given.captured:
-                        reads(captured, 0)
+            come = unit.come(self.block)
+            for given in unit.inputs[unit.passed:come]:
+                if not self.exhausted(unit, given):
+                    reads(given.unit, unit.need(given, unit.filled, self.block))
+            for captured, last in unit.last_capture.items():
+                if last >= come:
+                    reads(captured, 0)
         return least
+
+    def exhausted(self, unit, given):
+        return given.unit is None or unit.need(given, unit.filled, self.block) == given.visible
 
     def live_by_kind(self):
         counts = [0] * len(KINDS)
-        least = self.least_positions()
-        for unit in self.units:
-            if unit.number in least:
-                counts[KINDS.index(unit.kind)] += max(0, unit.filled - least[unit.number] // self.block)
+        for number, position in self.least_positions().items():
+            unit = self.units[number]
+            counts[KINDS.index(unit.kind)] += max(0, unit.filled - position // self.block)
         return counts
 
     def live(self):
         return sum(self.live_by_kind())
 
     def fill(self, unit):
-        for given in unit.inputs:
-            if given.unit is not None and given.offset < (unit.filled + 1) * self.block:
-                need = unit.need(given, unit.filled + 1, self.block)
-                while self.computed(given.unit) < need:
-                    self.fill(given.unit)
+        for given in unit.inputs[unit.passed:unit.come(self.block)]:
+            need = unit.need(given, unit.filled + 1, self.block)
+            while given.unit is not None and self.computed(given.unit) < need:
+                self.fill(given.unit)
         if self.watch or not self.few:
             live = self.live()
             if live == self.pool:
@@ -1461,6 +1486,8 @@ class Engine:
             self.peak = max(self.peak, live + 1)
         unit.filled += 1
         self.fills += 1
+        while unit.passed < unit.come(self.block) and self.exhausted(unit, unit.inputs[unit.passed]):
+            unit.passed += 1
 
     def ended(self, c):
         return self.pulled[c] == self.channels[c].length

@@ -120,6 +120,40 @@ def sequences():
     assert nyq.Env(8000).warp([(1411200, 705600)]).least_inverse(1) == 2
 
 
+def turns():
+    """Where parts of a sequence begin, at 8 samples a millisecond. `cc0c` is 0.1, `9919` 0.2, `ff1f` 0.25, `ff3f` 0.5."""
+    rows = {
+        "seq(const(0.25, 0.001), s-rest(0.002), const(0.5, 0.001))": "ff1f" * 8 + "0000" * 16 + "ff3f" * 8,
+        "seq(const(1, 0), const(0.25, 0.001))": "ff1f" * 8,
+        "seq(s-rest(0.001), s-rest(0.002))": "0000" * 24,
+        "seq(const(0.25, 0.001), const(1, 0))": "ff1f" * 8,
+        "seq(const(0.1, 0.001) @ 0.003, const(0.2, 0.001))": "0000" * 24 + "cc0c" * 8 + "9919" * 8,
+        "seq(const(0.1, 0.001), const(0.2, 0.001) @ 0.002)": "cc0c" * 8 + "0000" * 16 + "9919" * 8,
+        "seq(const(0.1, 0.005) * const(1, 0.001), const(0.2, 0.001))": "cc0c" * 8 + "9919" * 8,
+        "seq(sim(const(0.1, 0.001), s-rest(0.002)), const(0.2, 0.001))": "cc0c" * 8 + "0000" * 8 + "9919" * 8,
+        "stretch(2, seq(const(0.1, 0.001), const(0.2, 0.001)))": "cc0c" * 16 + "9919" * 16,
+        "seq(const(0.1, 0.001), const(0.2, 0.001)) @ 0.001": "0000" * 8 + "cc0c" * 8 + "9919" * 8,
+        "seqrep(i, 3, const(i * 0.1, 0.001))": "0000" * 8 + "cc0c" * 8 + "9919" * 8,
+        # what comes later is added last, and clamped at each step
+        "seq(sustain(4, const(2000, 0.001)), sustain(3, const(2000, 0.001)), sustain(2, const(-2000, 0.001)), const(-147, 0.001))":
+            "ff7f" * 24 + "e73d" * 8,
+        # a bare name is moved to its turn, and its stop is not
+        "begin with x = const(0.25, 0.002) return seq(const(0.1, 0.004), x, cue(x)) end": "cc0c" * 32 + "ff3f" * 16,
+        "begin with x = const(0.25, 0.002) return seq(const(0.1, 0.004), cue(x), cue(x)) end": "cc0c" * 32 + "ff1f" * 32,
+        # a waiting part has the names that were seen where it stands
+        "begin with x = const(0.1, 0.001) return seq(cue(x), begin with x = const(0.2, 0.001) return x end, cue(x)) end":
+            "cc0c" * 8 + "9919" * 8 + "cc0c" * 8,
+    }
+    for text, bytes_ in rows.items():
+        assert frames("play " + text) == bytes_, text
+        assert frames("play " + text, "--pool 6") == bytes_, text
+        long = run("render in.sal out.wav --rate 8000 --block 4096", "play " + text)
+        assert long[1][44:].hex() == bytes_, text
+    assert render(TWICE, "--pool 12")[0] == 0 and render(TWICE, "--pool 11")[0] == 8
+    apart = "play seq(osc(69, 0.02), osc(69, 0.02))"
+    assert render(apart, "--pool 2")[0] == 0 and render(apart, "--pool 1")[0] == 8
+
+
 def chain(last, zero, step):
     text = "define function f0() return %s\n" % zero
     for k in range(1, last + 1):
@@ -224,7 +258,7 @@ def pieces():
 
 
 def all_rows():
-    for rows in (files, sequences, faults, pools_and_hosts, sounds, liveness, pieces):
+    for rows in (files, sequences, turns, faults, pools_and_hosts, sounds, liveness, pieces):
         rows()
         print(rows.__name__, "hold")
 
