@@ -7,6 +7,7 @@ pub mod EnvelopeLemmas
 pub mod ShapeLemmas
 pub mod ProgramLemmas
 pub mod EvalLemmas
+pub mod OneChannelLemmas
 pub mod ChannelLemmas
 pub mod FrameLemmas
 pub mod RankLemmas
