@@ -12,3 +12,4 @@ pub mod Stretches
 pub mod Runs
 pub mod Reaching
 pub mod Resampled
+pub mod Reciprocals

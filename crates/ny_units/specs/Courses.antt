@@ -17,6 +17,9 @@ pub record IsCourse (c : Course) : Type 0 where
   pub fine : c.step ≤ 320000
   pub whole : c.whole ≡ c.step / c.grid
   pub part : c.part ≡ c.step % c.grid
+  -- parts of 2^71
+  pub enough : 2361183241434822606848 ≤ c.parts * c.grid
+  pub few : c.parts * c.grid < 2361183241434822606848 + c.grid
 
 -- where the output at its index lies
 pub record IsPosition (c : Course) (p : Position) : Type 0 where

@@ -35,7 +35,7 @@ pub(crate) fn fill_stretch(
     let mut written = 0;
     while written < out.len() && first.lacks(course, at) <= ahead.len() as u64 {
         window = first.moved(ahead, first.lacks(course, at) as usize);
-        out[written] = on_way(window.before, window.after, at.part, course.grid);
+        out[written] = on_way(window.before, window.after, at.part, course);
         at = course.next(at);
         written += 1;
     }
