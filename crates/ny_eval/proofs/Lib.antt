@@ -1,13 +1,11 @@
 pub mod AnswerLemmas
 pub mod MarkLemmas
-pub mod BuiltLemmas
 pub mod UnitLemmas
 pub mod LeafLemmas
 pub mod EnvelopeLemmas
 pub mod ShapeLemmas
 pub mod ProgramLemmas
 pub mod EvalLemmas
-pub mod ChannelLemmas
 pub mod FrameLemmas
 pub mod RankLemmas
 pub mod TowerLemmas
@@ -25,3 +23,5 @@ pub mod HandedLemmas
 pub mod KeptLemmas
 pub mod DuePartLemmas
 pub mod RevealedLemmas
+pub mod PlayedLemmas
+pub mod ChannelLemmas
