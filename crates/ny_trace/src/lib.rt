@@ -5,7 +5,9 @@
 #![tactic(auto)]
 
 mod laws;
+mod plays;
 mod reveals;
 
 pub use laws::trace_laws;
+pub use plays::plays_laws;
 pub use reveals::reveal_laws;
