@@ -1,5 +1,5 @@
 -- What each evaluation and each sound given up keeps, what is played keeps.
-use Rattle.std.proofs.Common.{◌≡◌, inl, inr, ℕ, zero, suc, ◌<◌, Bool, true, false, if◌then◌else◌, List, [], ◌∷◌, ◌++◌, length, subst, arith, take}
+use Rattle.std.proofs.Common.{inl, inr, ℕ, zero, suc, ◌<◌, Bool, true, false, if◌then◌else◌, List, [], ◌∷◌, ◌++◌, length, subst, arith, take}
 use Rattle.std.specs.Prelude.{zip}
 use Rattle.ny_warp.specs.declared.env.Env.{Env}
 use Rattle.ny_resolve.specs.declared.term.NameId.{NameId}
@@ -15,7 +15,7 @@ use Rattle.ny_heap.specs.Heap.{HeapState}
 use Rattle.ny_hands.specs.declared.branch.Branch.{Branch}
 use Rattle.ny_hands.specs.Calls.{ReleasesAll}
 use Rattle.ny_hands.specs.Frames.{Names, sounds_among}
-use Rattle.ny_trace.specs.Evaluates.{Trace, parts_of, ValueTurn, BindsTurn, ValuesTurn, PartsTurn, sounds_of_values, Evaluates}
+use Rattle.ny_trace.specs.Evaluates.{Trace, parts_of, ValueTurn, BindsTurn, ValuesTurn, PartsTurn, sounds_of_values}
 use Rattle.ny_trace.specs.Plays.{PlaysTrace, EvaluatesAny, PlaysOne, PlaysNode, Plays}
 use Rattle.ny_trace.proofs.BlockLemmas.{below_first}
 use Rattle.ny_trace.proofs.EvaluationLemmas.{below_all, below_binds}

@@ -1,6 +1,6 @@
 -- What is played gives the sounds of the strict meaning in order, leaves all that was there, and has these sounds in hand.
-use Rattle.std.proofs.Common.{◌≡◌, inl, inr, ℕ, zero, suc, ◌<◌, Bool, true, false, if◌then◌else◌, List, [], ◌∷◌, ◌++◌, length, map, drop, take, refl, sym, ap, subst, ◌∙◌, arith}
-use Rattle.std.specs.Prelude.{zip, get_or}
+use Rattle.std.proofs.Common.{◌≡◌, inl, inr, ℕ, zero, suc, ◌<◌, Bool, true, false, if◌then◌else◌, List, [], ◌∷◌, ◌++◌, length, map, drop, refl, sym, ap, ◌∙◌, arith}
+use Rattle.std.specs.Prelude.{zip}
 use Rattle.ny_num.specs.Sound as sounds
 use Rattle.ny_num.specs.Sound.{silence}
 use Rattle.ny_num.specs.declared.rate.Rate.{Rate}
@@ -10,24 +10,24 @@ use Rattle.ny_check.specs.declared.node.Node.TheVariants as node
 use Rattle.ny_check.specs.declared.node.ExprId.{ExprId}
 use Rattle.ny_check.specs.Code.{Code, node_at, function_at, IsBelow, IsOrdered}
 use Rattle.ny_check.specs.Values.{scalars_of, test_of}
-use Rattle.ny_check.specs.Meaning.{Bound, meaning, value_of, bound_after}
+use Rattle.ny_check.specs.Meaning.{Bound, meaning}
 use Rattle.ny_check.specs.Channels.{operand, plays_node, played}
 use Rattle.ny_heap.specs.declared.sound.Sound.{Sound}
 use Rattle.ny_heap.specs.Heap.{HeapState}
-use Rattle.ny_heap.specs.Means.{Parts, Whole}
+use Rattle.ny_heap.specs.Means.{Whole}
 use Rattle.ny_heap.specs.Reach.{HeapLaws}
 use Rattle.ny_hands.specs.declared.branch.Branch.{Branch}
 use Rattle.ny_hands.specs.Frames.{Names, bound_in, part_is}
-use Rattle.ny_hands.specs.Hands.{Hand, Item, item, sounds_in, Comes, AreNamed}
+use Rattle.ny_hands.specs.Hands.{Item, item, sounds_in, Comes, AreNamed}
 use Rattle.ny_hands.proofs.NameLemmas.{scalars_bound}
-use Rattle.ny_trace.specs.Evaluates.{Trace, parts_of, PartsTurn, Evaluates}
+use Rattle.ny_trace.specs.Evaluates.{Trace, parts_of, PartsTurn}
 use Rattle.ny_trace.specs.Laws.{KeepsFree, IsLawful}
-use Rattle.ny_trace.specs.Plays.{PlaysTrace, EvaluatesAny, PlaysCall, PlaysBlock, PlaysOne, PlaysNode, Plays, PlaysItems, PlaysLawfully}
+use Rattle.ny_trace.specs.Plays.{PlaysTrace, EvaluatesAny, PlaysOne, PlaysNode, Plays, PlaysItems, PlaysLawfully}
 use Rattle.ny_trace.proofs.ValueLemmas.{Agree}
 use Rattle.ny_trace.proofs.BlockLemmas.{binds_leave, under_binds, args_leave, under_args}
 use Rattle.ny_trace.proofs.MixLemmas.{parts_are, part_items, parts_come, part_sounds}
 use Rattle.ny_trace.proofs.EvaluationLemmas.{below_all, below_binds, evaluates_lawful}
-use Rattle.ny_trace.proofs.PlayedLemmas.{played-is, Counts, plays_count}
+use Rattle.ny_trace.proofs.PlayedLemmas.{played-is, plays_count}
 
 -- ---- sounds and what they are
 

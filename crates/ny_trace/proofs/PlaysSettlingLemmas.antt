@@ -1,5 +1,5 @@
 -- What is played leaves no part that is due.
-use Rattle.std.proofs.Common.{inl, inr, ℕ, zero, suc, Bool, if◌then◌else◌, List, [], ◌∷◌, ◌++◌, length, take}
+use Rattle.std.proofs.Common.{inl, inr, ℕ, zero, suc, Bool, if◌then◌else◌, List, ◌++◌, length, take}
 use Rattle.std.specs.Prelude.{zip}
 use Rattle.ny_warp.specs.declared.env.Env.{Env}
 use Rattle.ny_check.specs.declared.node.Node.{Node}

@@ -1,5 +1,5 @@
-//! The trace of an evaluation: which calls of a heap evaluate an expression, by family of nodes, and what
-//! follows from them.
+//! The trace of an evaluation: which calls of a heap evaluate an expression, or all channels that it plays,
+//! by family of nodes, and what follows from them.
 //!
 //! The rules stand in `docs/DEFINITIONS.md`, "The trace of an evaluation".
 #![tactic(auto)]
