@@ -93,34 +93,34 @@ module _ (code : Code) (D : Trace) (P : PlaysTrace) (law : Counts code P) (e : �
   one_count step = ap length (sym step.2)
 
   node_count : (at : Node) → IsBelow code.functions e at → PlaysNode D P code e at env names old new ss → Counted at
-  node_count (node.Vector es) below step = parts_count code D env names es old new ss step bound
-  node_count (node.Call f es) below step =
-      law (function_at code f.0).body.0 env (zip (function_at code f.0).params step.values) step.mid step.end ss step.inside (omega (arith, below.2, inside)) (zip (function_at code f.0).params (map (value_of code (meaning code) env bound) es))
+  node_count (node.Vector es) under step = parts_count code D env names es old new ss step bound
+  node_count (node.Call f es) under step =
+      law (function_at code f.0).body.0 env (zip (function_at code f.0).params step.values) step.mid step.end ss step.inside (omega (arith, under.2, inside)) (zip (function_at code f.0).params (map (value_of code (meaning code) env bound) es))
       (values_scalars code D (function_at code f.0).params es env names old step.mid step.values step.arguments bound same)
-  node_count (node.Block bs a) below step =
-      law a.0 env (names ++ step.added) step.mid step.end ss step.body (omega (arith, below.1, inside)) (bound_after code (meaning code) env bs bound)
+  node_count (node.Block bs a) under step =
+      law a.0 env (names ++ step.added) step.mid step.end ss step.body (omega (arith, under.1, inside)) (bound_after code (meaning code) env bs bound)
       (binds_scalars code D env bs names old step.mid step.added step.binds bound same)
-  node_count (node.If c a b) below step = chosen (test_of code c (scalars_of names)) refl step
+  node_count (node.If c a b) under step = chosen (test_of code c (scalars_of names)) refl step
     where
       chosen : (t : Bool) → test_of code c (scalars_of names) ≡ t → P (if t then a.0 else b.0) env names old new ss → Counted (node.If c a b)
-      chosen true is step = ap (λ t. length (if t then played code a.0 env bound else played code b.0 env bound)) (ap (test_of code c) same ∙ is) ∙ law a.0 env names old new ss step (omega (arith, below.1, inside)) bound same
-      chosen false is step = ap (λ t. length (if t then played code a.0 env bound else played code b.0 env bound)) (ap (test_of code c) same ∙ is) ∙ law b.0 env names old new ss step (omega (arith, below.2, inside)) bound same
-  node_count (node.Number v) below step = one_count step
-  node_count (node.Local x) below step = one_count step
-  node_count (node.Global a) below step = one_count step
-  node_count (node.Pair op a b) below step = one_count step
-  node_count (node.Div a v) below step = one_count step
-  node_count (node.Neg a) below step = one_count step
-  node_count (node.Compare r a b) below step = one_count step
-  node_count (node.And a b) below step = one_count step
-  node_count (node.Or a b) below step = one_count step
-  node_count (node.Not a) below step = one_count step
-  node_count (node.Leaf g es) below step = one_count step
-  node_count (node.Effect fx a es) below step = one_count step
-  node_count (node.Cue a) below step = one_count step
-  node_count (node.Mix o es) below step = one_count step
-  node_count (node.Repeat o i k a) below step = one_count step
-  node_count (node.Change c a) below step = one_count step
+      chosen true is step = ap (λ t. length (if t then played code a.0 env bound else played code b.0 env bound)) (ap (test_of code c) same ∙ is) ∙ law a.0 env names old new ss step (omega (arith, under.1, inside)) bound same
+      chosen false is step = ap (λ t. length (if t then played code a.0 env bound else played code b.0 env bound)) (ap (test_of code c) same ∙ is) ∙ law b.0 env names old new ss step (omega (arith, under.2, inside)) bound same
+  node_count (node.Number v) under step = one_count step
+  node_count (node.Local x) under step = one_count step
+  node_count (node.Global a) under step = one_count step
+  node_count (node.Pair op a b) under step = one_count step
+  node_count (node.Div a v) under step = one_count step
+  node_count (node.Neg a) under step = one_count step
+  node_count (node.Compare r a b) under step = one_count step
+  node_count (node.And a b) under step = one_count step
+  node_count (node.Or a b) under step = one_count step
+  node_count (node.Not a) under step = one_count step
+  node_count (node.Leaf g es) under step = one_count step
+  node_count (node.Effect fx a es) under step = one_count step
+  node_count (node.Cue a) under step = one_count step
+  node_count (node.Mix o es) under step = one_count step
+  node_count (node.Repeat o i k a) under step = one_count step
+  node_count (node.Change c a) under step = one_count step
 
 pub plays_count : (code : Code) → IsOrdered code → (n : ℕ) → Counts code (Plays code n)
 plays_count code ordered zero e env names old new ss t inside bound same = absurd t
