@@ -25,3 +25,7 @@ pub mod DuePartLemmas
 pub mod RevealedLemmas
 pub mod PlayedLemmas
 pub mod ChannelLemmas
+pub mod FreshLemmas
+pub mod OpeningLemmas
+pub mod OpenedLemmas
+pub mod PlayedOpeningLemmas
