@@ -16,8 +16,10 @@ pub channels_of-requires : goal.channels_of-requires
 channels_of-requires c =
     let empty = empty_frame c.in_ok-frame.frame c.as_slice.result.now c.in_ok-frame.ensures (c.as_slice.ensures ∙ c.no_names-none.ensures) in
     let inside : c.play.result.0 < length c.args.p.now.nodes = subst (λ (x : ExprId). x.0 < length c.args.p.now.nodes) (sym c.play.ensures.value) c.program_laws.ensures.ordered.play in
-    record { hands = all_in_hand c.args.heap.now c.played.new.heap c.in_ok-parts.parts.items c.requires.empty.laws
-        (plays_hand c.args.p.now c.program_laws.ensures.ordered c.program_laws.ensures.free (c.play.result.0 + 1) c.play.result.0 c.in_ok-env.env (names_in c.in_ok-frame.frame) c.args.heap.now c.played.new.heap c.in_ok-parts.parts.items inside c.requires.empty.laws (empty_held c.args.heap.now c.in_ok-frame.frame empty) c.in_ok-parts.ensures.plays) }
+    record {
+      hands = all_in_hand c.args.heap.now c.played.new.heap c.in_ok-parts.parts.items c.requires.empty.laws
+          (plays_hand c.args.p.now c.program_laws.ensures.ordered c.program_laws.ensures.free (c.play.result.0 + 1) c.play.result.0 c.in_ok-env.env (names_in c.in_ok-frame.frame) c.args.heap.now c.played.new.heap c.in_ok-parts.parts.items inside c.requires.empty.laws (empty_held c.args.heap.now c.in_ok-frame.frame empty) c.in_ok-parts.ensures.plays);
+    }
 
 pub returns-clause-counts : goal.returns-clause-counts
 returns-clause-counts c =
@@ -40,5 +42,5 @@ returns-in_err-channels_of-clause-refused c =
     let empty = empty_frame c.in_ok-frame.frame c.as_slice.result.now c.in_ok-frame.ensures (c.as_slice.ensures ∙ c.no_names-none.ensures) in
     let inside : c.play.result.0 < length c.args.p.now.nodes = subst (λ (x : ExprId). x.0 < length c.args.p.now.nodes) (sym c.play.ensures.value) c.program_laws.ensures.ordered.play in
     on_err _ _ (all_given_up c.args.heap.now c.played.new.heap c.channels_of.new.heap c.in_ok-parts.parts.items c.requires.empty.laws
-        (plays_hand c.args.p.now c.program_laws.ensures.ordered c.program_laws.ensures.free (c.play.result.0 + 1) c.play.result.0 c.in_ok-env.env (names_in c.in_ok-frame.frame) c.args.heap.now c.played.new.heap c.in_ok-parts.parts.items inside c.requires.empty.laws (empty_held c.args.heap.now c.in_ok-frame.frame empty) c.in_ok-parts.ensures.plays)
-        c.in_err-channels_of.ensures.gives_up)
+    (plays_hand c.args.p.now c.program_laws.ensures.ordered c.program_laws.ensures.free (c.play.result.0 + 1) c.play.result.0 c.in_ok-env.env (names_in c.in_ok-frame.frame) c.args.heap.now c.played.new.heap c.in_ok-parts.parts.items inside c.requires.empty.laws (empty_held c.args.heap.now c.in_ok-frame.frame empty) c.in_ok-parts.ensures.plays)
+    c.in_err-channels_of.ensures.gives_up)
