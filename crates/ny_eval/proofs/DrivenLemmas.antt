@@ -14,7 +14,7 @@ use Rattle.ny_trace.specs.Heights.{IsTall}
 use Rattle.ny_trace.specs.Laws.{KeepsFree}
 use Rattle.ny_walk.specs.Walk.{FillTurn, PartTurn, RevealsParts, WalksWants, FillsThen, Walks, WalksInOrder}
 use Rattle.ny_walk.specs.Stops.{StopsAtFull, RunsOut, NoneWaits, FindsNoneFree}
-use Rattle.ny_walk.specs.Below.{IsSettled, SettledButOne, IsRanked, Walked, Stopped, WantsSoFar, RevealsSoFar, missing}
+use Rattle.ny_walk.specs.Below.{IsSettled, IsRanked, Walked, Stopped, WantsSoFar, RevealsSoFar, missing}
 use Rattle.ny_walk.specs.Heard.{StaysHeard}
 use Rattle.ny_walk.proofs.TurnLemmas as turns
 use Rattle.ny_walk.proofs.WalkLemmas as walks
@@ -193,9 +193,6 @@ module _ (code : Code) (ordered : IsOrdered code) (free : KeepsFree code) (high 
 
         pub filled_there : IsSettled old → IsSomeAnd (node_at filled u) (λ x. x.pending ≡ 0)
         filled_there settled = let so = filled_so_far settled in and_some (node_at filled u) (λ x. x.pending ≡ 0) so.unit so.there so.pending
-
-        pub filled_settled : IsSettled old → SettledButOne u filled
-        filled_settled settled = (filled_so_far settled).settled
 
         pub filled_ready : IsSettled old → IsReady code old → IsReady code filled
         filled_ready settled ready = let so = filled_so_far settled in record { parts = so.parts ready.parts; fits = so.fits ready.fits }

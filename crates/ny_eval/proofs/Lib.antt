@@ -6,6 +6,7 @@ pub mod EnvelopeLemmas
 pub mod ShapeLemmas
 pub mod ProgramLemmas
 pub mod EvalLemmas
+pub mod ChannelLemmas
 pub mod FrameLemmas
 pub mod RankLemmas
 pub mod TowerLemmas
@@ -24,7 +25,6 @@ pub mod KeptLemmas
 pub mod DuePartLemmas
 pub mod RevealedLemmas
 pub mod PlayedLemmas
-pub mod ChannelLemmas
 pub mod FreshLemmas
 pub mod OpeningLemmas
 pub mod OpenedLemmas

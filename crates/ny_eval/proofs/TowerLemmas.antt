@@ -1,12 +1,11 @@
 -- How high a unit stands at least: above what it reads, and, where a part waits, above what that keeps with room for what it will make.
-use Rattle.std.proofs.Common.{◌≡◌, ℕ, zero, suc, ◌+◌, ◌<◌, ◌≤◌, max, List, [], ◌∷◌, get_or, slice_get, Option, None, Some, length, IsSome, refl, sym, ap, subst, ◌∙◌, arith}
+use Rattle.std.proofs.Common.{◌≡◌, ℕ, zero, suc, ◌+◌, ◌<◌, ◌≤◌, max, List, [], ◌∷◌, get_or, slice_get, Option, None, Some, length, refl, ap, ◌∙◌, arith}
 use Rattle.std.specs.Option.{option_map_or}
 use Rattle.ny_heap.specs.Heap.{Reader, Captured, Waiting, Node, HeapState, node_at}
 use Rattle.ny_heap.specs.Reach.{Uses, Read, Hold, HeapLaws}
 use Rattle.ny_hands.specs.declared.branch.Branch.{Branch}
-use Rattle.ny_hands.proofs.OptionLemmas.{same_at, some_there}
-use Rattle.ny_hands.proofs.HeapLemmas.{there_within}
-use Rattle.ny_trace.specs.Heights.{Ranks, HasRoom}
+use Rattle.ny_hands.proofs.OptionLemmas.{same_at}
+use Rattle.ny_trace.specs.Heights.{Ranks}
 use Rattle.ny_walk.specs.Below.{IsRanked}
 use Rattle.ny_eval.proofs.RankLemmas.{compressed, compressed_falls, compressed_within}
 

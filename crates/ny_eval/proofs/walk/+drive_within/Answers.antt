@@ -2,7 +2,7 @@ use Rattle.std.proofs.Common.{true, ap, sym}
 use Rattle.ny_heap.specs.Heap.{HeapState}
 use Rattle.ny_hands.specs.declared.branch.Branch.{Branch}
 use Rattle.ny_hands.proofs.OptionLemmas.{some_and}
-use Rattle.ny_eval.proofs.DrivenLemmas.{turn_of, underway_none, same_size, still_open, still_settled, next_asks, underway_more, less_missing, stops_below, stops_here, filled_size, filled_there, filled_settled, filled_ready, ends, lacks_here}
+use Rattle.ny_eval.proofs.DrivenLemmas.{turn_of, underway_none, same_size, still_open, still_settled, next_asks, underway_more, less_missing, stops_below, stops_here, filled_size, filled_there, filled_ready, ends, lacks_here}
 use Rattle.ny_eval.proofs.walk.+drive_within.Goals as goal
 
 pub loop-v-init : goal.loop-v-init

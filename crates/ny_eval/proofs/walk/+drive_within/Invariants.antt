@@ -1,4 +1,3 @@
-use Rattle.std.proofs.Common.{◌+◌}
 use Rattle.ny_check.specs.Heights.{height_of}
 use Rattle.ny_walk.specs.Below.{missing}
 use Rattle.ny_eval.proofs.TowerLemmas.{tower}
