@@ -29,3 +29,4 @@ pub mod FreshLemmas
 pub mod OpeningLemmas
 pub mod OpenedLemmas
 pub mod PlayedOpeningLemmas
+pub mod PlayingLemmas
