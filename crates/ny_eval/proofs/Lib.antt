@@ -30,3 +30,6 @@ pub mod OpeningLemmas
 pub mod OpenedLemmas
 pub mod PlayedOpeningLemmas
 pub mod PlayingLemmas
+pub mod BlockLemmas
+pub mod StayingLemmas
+pub mod ReadingLemmas

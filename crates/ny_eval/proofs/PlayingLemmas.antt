@@ -160,7 +160,7 @@ stopped_pulled code old new u s filled laws stopped p =
 
 -- ---- counts by place
 
-set_other : (ns : List ℕ) (c d n : ℕ) → d ≢ c → slice_index (slice_set ns c n) d ≡ slice_index ns d
+pub set_other : (ns : List ℕ) (c d n : ℕ) → d ≢ c → slice_index (slice_set ns c n) d ≡ slice_index ns d
 set_other [] zero d n ne = refl
 set_other [] (suc c) d n ne = refl
 set_other (k ∷ ns) zero zero n ne = absurd (ne refl)
@@ -168,7 +168,7 @@ set_other (k ∷ ns) zero (suc d) n ne = refl
 set_other (k ∷ ns) (suc c) zero n ne = refl
 set_other (k ∷ ns) (suc c) (suc d) n ne = set_other ns c d n (λ e. ne (ap (λ j. suc j) e))
 
-within : (sounds : List (Option Sound)) (c : ℕ) (s : Sound) → slice_get sounds c ≡ Some (Some s) → c < length sounds
+pub within : (sounds : List (Option Sound)) (c : ℕ) (s : Sound) → slice_get sounds c ≡ Some (Some s) → c < length sounds
 within [] c s at = absurd (never at)
   where
     never : None ≡ Some (Some s) → ⊥
