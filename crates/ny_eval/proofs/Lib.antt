@@ -33,3 +33,4 @@ pub mod PlayingLemmas
 pub mod BlockLemmas
 pub mod StayingLemmas
 pub mod ReadingLemmas
+pub mod GivingUpLemmas
