@@ -1,2 +1,2 @@
-pub mod PlayLemmas
 pub mod EngineLemmas
+pub mod StateLemmas
