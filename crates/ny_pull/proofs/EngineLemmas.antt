@@ -11,7 +11,8 @@ use Rattle.ny_num.specs.Sound.{silence}
 use Rattle.ny_check.specs.Code.{Code}
 use Rattle.ny_check.specs.Channels.{channels}
 use Rattle.ny_check.specs.Heights.{height_of}
-use Rattle.ny_heap.specs.Heap.{Node, HeapState, node_at, is_open, list_of, place_of, open_unit}
+use Rattle.std.specs.List.{fold}
+use Rattle.ny_heap.specs.Heap.{Node, HeapState, node_at, is_open, list_of, place_of, open_unit, live_of}
 use Rattle.ny_heap.specs.Reach.{HeapLaws, IsTrimmed}
 use Rattle.ny_heap.specs.Steps.{IsHeldSound, run_of, computed_in}
 use Rattle.ny_heap.specs.declared.sound.Sound.{Sound}
@@ -106,7 +107,7 @@ module _ (code : Code) (rate : Rate) (h : HeapState Branch) (os : List (Option S
 
 -- ---- a block that is filled and read
 
-set_twice : (os : List (Option Sound)) (c : ℕ) (a b : Option Sound) → slice_set (slice_set os c a) c b ≡ slice_set os c b
+pub set_twice : (os : List (Option Sound)) (c : ℕ) (a b : Option Sound) → slice_set (slice_set os c a) c b ≡ slice_set os c b
 set_twice [] zero a b = refl
 set_twice [] (suc c) a b = refl
 set_twice (o ∷ os) zero a b = refl
@@ -213,3 +214,53 @@ module _ (code : Code) (rate : Rate) (h mid new : HeapState Branch) (os later : 
     still = λ enough. playing_now;
     full = λ fault is other. absurd (none_spent spent fault unspent is);
   }
+
+-- ---- a pull that fails
+
+module _ (code : Code) (rate : Rate) (h new : HeapState Branch) (os : List (Option Sound)) (pulled : List ℕ) (frames pulls : ℕ) (spent : Option PullFault) (inside : IsEngineInside code rate h os pulled frames pulls spent) where
+  given_later : new.block ≡ h.block → (d : ℕ) (o : Option Sound) → slice_get os d ≡ Some o → HasGiven o (length (slice_index_or (channels code rate) d (silence rate)).samples) (slice_index pulled d * new.block)
+  given_later block d o at = subst (λ b. HasGiven o (length (slice_index_or (channels code rate) d (silence rate)).samples) (slice_index pulled d * b)) (sym block) (inside.given d o at)
+
+  pub spends : spent ≡ None → (c u live : ℕ) → (found : (s : Sound) × (slice_get os c ≡ Some (Some s)) × (open_unit h (list_of s) ≡ Some u)) → Stopped code (height_of code) h new u → StaysHeard code h new → IsReady code new → live ≡ live_of new → live ≡ new.pool → IsEngineInside code rate new os pulled frames pulls (Some (PoolFull pulls live))
+  spends unspent c u live found stopped hears ready counted full = record {
+    count = inside.count;
+    count_pulled = inside.count_pulled;
+    some = inside.some;
+    few = inside.few;
+    len = inside.len;
+    total = inside.total;
+    bounded = inside.bounded;
+    laws = stopped.laws;
+    given = given_later hears.block;
+    still = λ enough. stops_channel code h new os (samples_of code rate) pulled pulled c found.0 u (playing code rate h os pulled frames pulls spent inside unspent) found.1 (opens_at code rate h os pulled frames pulls spent inside unspent c found.0 u found.1 found.2).list stopped hears ready;
+    full = λ fault is other. (sym (some_same (PoolFull pulls live) fault is) ∙ ap (PoolFull pulls) full, sym counted ∙ full);
+  }
+
+  pub runs_short : HeapLaws new → new.block ≡ h.block → IsEngineInside code rate new os pulled frames pulls (Some OutOfMemory)
+  runs_short laws block = record {
+    count = inside.count;
+    count_pulled = inside.count_pulled;
+    some = inside.some;
+    few = inside.few;
+    len = inside.len;
+    total = inside.total;
+    bounded = inside.bounded;
+    laws = laws;
+    given = given_later block;
+    still = λ enough. absurd (enough refl);
+    full = λ fault is other. absurd (other (sym (some_same OutOfMemory fault is)));
+  }
+
+-- there are no more pulls than eight hours have samples
+few_in_all : (ns : List ℕ) (b : ℕ) → ((c : ℕ) → slice_index ns c ≤ b) → sum ns ≤ length ns * b
+few_in_all ns b low = omega (arith, from 0 ns low)
+  where
+    from : (a : ℕ) (ns : List ℕ) → ((c : ℕ) → slice_index ns c ≤ b) → fold ◌+◌ a ns ≤ a + length ns * b
+    from a [] low = omega arith
+    from a (n ∷ ns) low = omega (arith, from (a + n) ns (λ c. low (suc c)), low 0, more (length ns) b)
+      where
+        more : (k b : ℕ) → (k + 1) * b ≡ k * b + b
+        more k b = omega arith
+
+pub few_pulls : (code : Code) (rate : Rate) (h : HeapState Branch) (os : List (Option Sound)) (pulled : List ℕ) (frames pulls : ℕ) (spent : Option PullFault) → IsEngineInside code rate h os pulled frames pulls spent → pulls ≤ 1382400000
+few_pulls code rate h os pulled frames pulls spent inside = omega (arith, inside.total, few_in_all pulled 172800000 inside.bounded, inside.count, inside.count_pulled, inside.few)
