@@ -66,7 +66,7 @@ zip_more [] vs v other less = absurd (omega (arith, less))
 zip_more (x ∷ xs) [] v other less = ap (λ (rest : Names). (x, v) ∷ rest) (zip_none xs [] refl)
 zip_more (x ∷ xs) (w ∷ vs) v other less = ap (λ (rest : Names). (x, w) ∷ rest) (zip_more xs vs v other (omega (arith, less)))
 
-zip_sounds : (xs : List NameId) (vs : List (Value Sound)) → length vs ≤ length xs → sounds_among (zip xs vs) ≡ sounds_of_values vs
+pub zip_sounds : (xs : List NameId) (vs : List (Value Sound)) → length vs ≤ length xs → sounds_among (zip xs vs) ≡ sounds_of_values vs
 zip_sounds [] [] few = refl
 zip_sounds [] (v ∷ vs) few = absurd (omega (arith, few))
 zip_sounds (x ∷ xs) [] few = refl

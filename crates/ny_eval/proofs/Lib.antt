@@ -1,13 +1,11 @@
 pub mod AnswerLemmas
 pub mod MarkLemmas
-pub mod BuiltLemmas
 pub mod UnitLemmas
 pub mod LeafLemmas
 pub mod EnvelopeLemmas
 pub mod ShapeLemmas
 pub mod ProgramLemmas
 pub mod EvalLemmas
-pub mod OneChannelLemmas
 pub mod ChannelLemmas
 pub mod FrameLemmas
 pub mod RankLemmas
@@ -26,3 +24,13 @@ pub mod HandedLemmas
 pub mod KeptLemmas
 pub mod DuePartLemmas
 pub mod RevealedLemmas
+pub mod PlayedLemmas
+pub mod FreshLemmas
+pub mod OpeningLemmas
+pub mod OpenedLemmas
+pub mod PlayedOpeningLemmas
+pub mod PlayingLemmas
+pub mod BlockLemmas
+pub mod StayingLemmas
+pub mod ReadingLemmas
+pub mod GivingUpLemmas

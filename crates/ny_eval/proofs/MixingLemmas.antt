@@ -120,7 +120,7 @@ each_come old new r (s ∷ ss) (t ∷ ts) step before others laws hand =
     hand_turned before new (ts ++ others) (t ∷ []) (subst (λ xs. Hand before new xs) (sym (append_assoc ts others (t ∷ []))) rest)
 
 -- a sound that stands behind some of the others
-hand_behind : {B : Type 0} (old new : HeapState B) (s : Sound) (xs others : List Sound) → Hand old new (s ∷ (xs ++ others)) → Hand old new ((xs ++ s ∷ []) ++ others)
+pub hand_behind : {B : Type 0} (old new : HeapState B) (s : Sound) (xs others : List Sound) → Hand old new (s ∷ (xs ++ others)) → Hand old new ((xs ++ s ∷ []) ++ others)
 hand_behind old new s xs others p = record {
   laws = p.laws;
   counts = p.counts;

@@ -1,4 +1,4 @@
-pub mod Built
+pub mod Channels
 pub mod Framed
 pub mod Knots
 pub mod Mixing

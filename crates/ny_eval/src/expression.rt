@@ -65,7 +65,7 @@ fn apply(
 }
 
 /// One of two expressions.
-fn chosen(holds: bool, a: ExprId, b: ExprId) -> ExprId
+pub(crate) fn chosen(holds: bool, a: ExprId, b: ExprId) -> ExprId
     ensures { result.0 ≡ (if holds then a.0 else b.0) }
 {
     if holds { a } else { b }
@@ -324,7 +324,7 @@ fn part(
 /// # Errors
 /// `AllocError` where memory is missing. Those before are then in hand.
 #[cycle(evaluate)]
-fn each_part(
+pub(crate) fn each_part(
     alloc: Global,
     p: &Program,
     e: ExprId,
@@ -418,7 +418,7 @@ fn in_order(
 /// # Errors
 /// `AllocError` where memory is missing. Some names are then bound.
 #[cycle(evaluate)]
-fn bind_all(
+pub(crate) fn bind_all(
     alloc: Global,
     p: &Program,
     e: ExprId,
@@ -486,7 +486,7 @@ fn block(
 /// # Errors
 /// `AllocError` where memory is missing. Some parameters are then bound.
 #[cycle(evaluate)]
-fn arguments(
+pub(crate) fn arguments(
     alloc: Global,
     p: &Program,
     e: ExprId,

@@ -4,7 +4,6 @@
 //! when they are wanted. The rules stand in `docs/DEFINITIONS.md`, "Evaluation" and "The engine".
 #![tactic(auto)]
 
-mod built;
 mod channels;
 mod cue;
 mod envelope;
@@ -16,6 +15,7 @@ mod leaf;
 mod mixing;
 mod name;
 mod parts;
+mod plays;
 mod reveal;
 mod turn;
 mod unit;
@@ -23,7 +23,6 @@ mod values;
 mod waiting;
 mod walk;
 
-pub use built::is_built;
 pub use channels::eval_channels;
 pub use expression::eval;
 pub use walk::{DriveFault, drive};

@@ -1,2 +1,3 @@
-pub mod PlayLemmas
+pub mod PlaceLemmas
 pub mod EngineLemmas
+pub mod StateLemmas

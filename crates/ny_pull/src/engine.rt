@@ -1,21 +1,27 @@
-ghost use Rattle.std.specs.Prelude.{◌≡◌, ◌≢◌, ℕ, ◌<◌, ◌≤◌, ◌↔◌, ◌++◌, [], ◌∷◌, ◌⊎◌, nat_lt, if◌then◌else◌, IsTrue, true, false, None, Some, Ok, Err, IfSome, IfOk, IfErr, OnOk, OnErr, is_err, length, drop, sum};
+ghost use Rattle.std.specs.Prelude.{◌≡◌, ◌≢◌, ℕ, ◌<◌, ◌≤◌, ◌↔◌, ◌++◌, [], ◌∷◌, ◌⊎◌, nat_lt, if◌then◌else◌, IsTrue, true, false, None, Some, Ok, Err, IfSome, IfOk, IfErr, OnOk, OnErr, is_err, length, drop, take, sum, map, List, slice_get, slice_index, Option};
+ghost use Rattle.std.specs.Option.{option_map};
 ghost use Rattle.ny_num.specs.Grid.{last_index};
-ghost use Rattle.ny_check.specs.Channels.{channels};
-ghost use Rattle.ny_eval.specs.Built.{is_built};
-ghost use Rattle.ny_heap.specs.Heap.{live_of};
-ghost use Rattle.ny_heap.specs.Means.{KeepsMeaning};
-ghost use Rattle.ny_heap.specs.Reach.{HeapLaws};
+ghost use Rattle.ny_check.specs.Channels.{channels, longest};
+ghost use Rattle.ny_heap.specs.Heap.{HeapState, live_of, list_of, place_of};
+ghost use Rattle.ny_heap.specs.declared.sound.Sound.{Sound as SoundOf};
+ghost use Rattle.ny_hands.specs.declared.branch.Branch.{Branch as BranchOf};
+ghost use Rattle.ny_heap.specs.Means.{Parts, Whole, Means, KeepsMeaning, sound_in};
+ghost use Rattle.ny_heap.specs.Reach.{HeapLaws, IsTrimmed};
 ghost use Rattle.ny_heap.specs.Revealing.{has_waiting};
-ghost use Rattle.ny_heap.specs.Steps.{IsHeldSound};
+ghost use Rattle.ny_heap.specs.Steps.{IsHeldSound, Passes, advanced, run_of, computed_in};
+ghost use Rattle.ny_hands.specs.Counts.{SameCounts};
+ghost use Rattle.ny_eval.specs.Opened.{AreOpened};
+ghost use Rattle.ny_pull.specs.Places.{unit_at, ReadsAt, longest_of, HaveBegun};
 ghost use Rattle.ny_pull.specs.Engine.{EngineState, channel_at, next_block, HasEnded, IsReadByChannels, with_pull, SamePiece, MeansItsChannels, Leaves, GivesBlock, StopsAtFull, NeedsMore, LacksMemory, full_of};
 
 use crate::fault::PullFault;
 use ny_check::Program;
 use ny_eval::{DriveFault, drive, eval_channels};
 use ny_hands::Branch;
-use ny_heap::{Heap, Sound};
+use ny_heap::{Heap, Sound, UnitId};
 use ny_num::{Rate, Sample};
 use std::alloc::{AllocError, Global};
+use std::collections::VecDeque;
 use std::marker::Model;
 
 /// What is left of a sound: the sound itself while some of it is to be read, and else nothing. It is
@@ -34,36 +40,115 @@ fn left(heap: &mut Heap<Branch>, sound: Sound) -> Option<Sound>
     None
 }
 
-/// One channel that is computed as it is pulled, a block at a time.
+/// The unit that the channel at this place reads, where it has a block left to fill.
+fn unit_at(heap: &Heap<Branch>, channels: &[Option<Sound>], c: usize) -> Option<UnitId>
+    requires within { c < length channels.now }
+    requires held { (s : SoundOf) → slice_get channels.now c ≡ Some (Some s) → IsHeldSound heap.now s }
+    ensures unit { option_map (λ u. u.0.0) result ≡ unit_at heap.now channels.now c }
+{
+    match &channels[c] {
+        None => None,
+        Some(sound) => heap.unit_of(sound),
+    }
+}
+
+/// The next samples of the channel at this place, which is not over. Once all were read its sound is given up.
+fn read_at(
+    heap: &mut Heap<Branch>,
+    channels: &mut [Option<Sound>],
+    c: usize,
+    out: &mut [Sample],
+) -> usize
+    requires laws { HeapLaws heap.old }
+    requires within { c < length channels.old }
+    requires there { (s : SoundOf) × (slice_get channels.old c ≡ Some (Some s)) × IsHeldSound heap.old s }
+    requires held { (s to : SoundOf) (n : ℕ) (h : HeapState BranchOf) → slice_get channels.old c ≡ Some (Some s) → Passes s to n → n ≡ run_of heap.old.block (computed_in heap.old (list_of s)) s.timing.len (place_of s) (length out.old) → HeapLaws h → IsTrimmed (advanced heap.old s to) h → KeepsMeaning heap.old h → IsHeldSound h to }
+    ensures reads { ReadsAt heap.old heap.new channels.old channels.new c (length out.old) result }
+    ensures samples { (s : SoundOf) → slice_get channels.old c ≡ Some (Some s) → (part : Parts BranchOf) (w : Whole) → Means part heap.old w → out.new ≡ take result (drop (place_of s) (sound_in w.samples (list_of s) s.timing).samples) ++ drop result out.old }
+{
+    let Some(sound) = channels[c].take() else {
+        unreachable!()
+    };
+    let mut rest = sound;
+    let count = heap.read(&mut rest, out);
+    channels[c] = left(heap, rest);
+    count
+}
+
+/// How many samples the longest of these has.
+fn frames_of(sounds: &[Sound]) -> u32
+    ensures { result ≡ longest_of sounds.now }
+{
+    let mut most = 0;
+    for sound in sounds {
+        most = sound.timing.len.max(most);
+    }
+    most
+}
+
+/// What is left of channels that were just opened: one without a sample is over.
+///
+/// # Errors
+/// `AllocError` where memory is missing.
+fn begun(
+    alloc: Global,
+    p: &Program,
+    rate: Rate,
+    sounds: Vec<Sound>,
+    heap: &mut Heap<Branch>,
+) -> Result<Vec<Option<Sound>>, AllocError>
+    requires opened { AreOpened p.now rate heap.old sounds.items }
+    ensures begun { IfOk result (λ channels. HaveBegun p.now rate sounds.items channels.items [] heap.new) }
+    ensures laws { HeapLaws heap.new }
+    ensures counts { SameCounts heap.old heap.new }
+{
+    let mut channels = Vec::with_capacity(alloc, sounds.as_slice().len())?;
+    let mut rest = VecDeque::from(sounds);
+    while let Some(sound) = rest.pop_front() {
+        channels.push_reserved(left(heap, sound));
+    }
+    Ok(channels)
+}
+
+/// One pull more at this place.
+fn count_at(pulled: &mut [u64], c: usize)
+    requires within { c < length pulled.old }
+    requires few { slice_index pulled.old c < 172800000 }
+    ensures { pulled.new ≡ with_pull pulled.old c }
+{
+    pulled[c] += 1;
+}
+
+/// The channels of a program, each computed as it is pulled, a block at a time.
 #[derive(Drop)]
 pub struct Engine {
     program: Program,
     rate: Rate,
     heap: Heap<Branch>,
-    // What is still to be pulled, and none once all of it was given.
-    channel: Option<Sound>,
+    // What is still to be pulled of each, and none once all of it was given.
+    channels: Vec<Option<Sound>>,
+    pulled: Vec<u64>,
+    // How many frames there are, and how many pulls gave samples.
     frames: u32,
     pulls: u64,
     spent: Option<PullFault>,
 }
 
 impl Model for Engine {
-    ghost use Rattle.std.specs.Prelude.{[], ◌∷◌};
     ghost use Rattle.ny_pull.specs.Engine.{EngineState};
 
     ghost Value = { EngineState };
 
     ghost use Rattle.ny_pull.specs.Inside.{IsEngineInside};
 
-    ghost view = { λ e. record { code = e.program; rate = e.rate; channels = e.channel ∷ []; pulled = e.pulls ∷ []; spent = e.spent; heap = e.heap } };
+    ghost view = { λ e. record { code = e.program; rate = e.rate; channels = e.channels.items; pulled = e.pulled.items; spent = e.spent; heap = e.heap } };
 
-    ghost invariant = { λ e. IsEngineInside e.program e.rate e.heap e.channel e.frames e.pulls e.spent };
+    ghost invariant = { λ e. IsEngineInside e.program e.rate e.heap e.channels.items e.pulled.items e.frames e.pulls e.spent };
 }
 
 impl Engine {
-    /// An engine for a program that can be played (`ny_eval::is_built`), at a rate, over a pool of `pool`
-    /// blocks of `block` samples each. It plays one channel, from its first sample on, and has filled
-    /// nothing.
+    /// An engine for a program, at a rate, over a pool of `pool` blocks of `block` samples each. It plays each
+    /// channel from its first sample on, and has filled nothing.
     ///
     /// # Errors
     /// `AllocError` where memory is missing.
@@ -74,28 +159,26 @@ impl Engine {
         block: u32,
         rate: Rate,
     ) -> Result<Engine, AllocError>
-        requires built { is_built program ≡ true }
         requires pool { (1 ≤ pool) × (pool ≤ 65536) }
         requires block { (16 ≤ block) × (block ≤ 4096) }
         ensures piece { IfOk result (λ e. (e.code ≡ program) × (e.rate ≡ rate) × (e.heap.pool ≡ pool) × (e.heap.block ≡ block)) }
-        ensures begins { IfOk result (λ e. (length e.channels ≡ length (channels e.code e.rate)) × (length e.channels ≡ 1) × (e.pulled ≡ 0 ∷ []) × (e.spent ≡ None)) }
+        ensures begins { IfOk result (λ e. (length e.channels ≡ length (channels e.code e.rate)) × (1 ≤ length e.channels) × (length e.channels ≤ 8) × (e.pulled ≡ map (λ s. 0) (channels e.code e.rate)) × (e.spent ≡ None)) }
         ensures unfilled { IfOk result (λ e. (e.heap.fills ≡ 0) × (e.heap.peak ≡ 0)) }
-        ensures hour { IfOk result (λ e. length (channel_at e 0) ≤ last_index rate) }
+        ensures hour { IfOk result (λ e. (c : ℕ) → length (channel_at e c) ≤ last_index rate) }
         ensures laws { IfOk result (λ e. HeapLaws e.heap) }
         ensures means { IfOk result (λ e. MeansItsChannels e) }
     {
         let mut heap = Heap::open(alloc, pool, block)?;
-        let mut sounds = eval_channels(alloc, &program, rate, &mut heap)?;
-        let Some(sound) = sounds.pop() else {
-            unreachable!()
-        };
-        let frames = sound.timing.len;
-        let channel = left(&mut heap, sound);
+        let sounds = eval_channels(alloc, &program, rate, &mut heap)?;
+        let frames = frames_of(sounds.as_slice());
+        let channels = begun(alloc, &program, rate, sounds, &mut heap)?;
+        let pulled = vec![in alloc; 0u64; channels.as_slice().len()]?;
         Ok(Engine {
             program,
             rate,
             heap,
-            channel,
+            channels,
+            pulled,
             frames,
             pulls: 0,
             spent: None,
@@ -106,13 +189,12 @@ impl Engine {
     pub fn channels(&self) -> u32
         ensures { result ≡ length self.now.channels }
     {
-        let _ = &self.channel;
-        1
+        self.channels.as_slice().len() as u32
     }
 
     /// How many frames there are: one for each sample of the channel.
     pub fn frames(&self) -> u32
-        ensures { result ≡ length (channel_at self.now 0) }
+        ensures { result ≡ longest (channels self.now.code self.now.rate) }
     {
         self.frames
     }
@@ -129,7 +211,7 @@ impl Engine {
         requires { c < length self.now.channels }
         ensures { IsTrue result ↔ HasEnded self.now c }
     {
-        self.channel.is_none()
+        self.channels.as_slice()[c as usize].is_none()
     }
 
     /// The next samples of channel `c`, to the front of `out`: a block of them, or what is left.
@@ -163,11 +245,8 @@ impl Engine {
         if let Some(fault) = self.spent {
             return Err(fault);
         }
-        let Some(channel) = self.channel.take() else {
+        let Some(unit) = unit_at(&self.heap, self.channels.as_slice(), c as usize) else {
             return Ok(0);
-        };
-        let Some(unit) = self.heap.unit_of(&channel) else {
-            unreachable!()
         };
         match drive(alloc, &self.program, &mut self.heap, unit) {
             Ok(()) => {}
@@ -176,19 +255,21 @@ impl Engine {
                     pulls: self.pulls,
                     live: self.heap.live(),
                 };
-                self.channel = Some(channel);
                 self.spent = Some(fault);
                 return Err(fault);
             }
             Err(DriveFault::OutOfMemory) => {
-                self.channel = Some(channel);
                 self.spent = Some(PullFault::OutOfMemory);
                 return Err(PullFault::OutOfMemory);
             }
         }
-        let mut rest = channel;
-        let count = self.heap.read(&mut rest, out);
-        self.channel = left(&mut self.heap, rest);
+        let count = read_at(
+            &mut self.heap,
+            self.channels.as_mut_slice(),
+            c as usize,
+            out,
+        );
+        count_at(self.pulled.as_mut_slice(), c as usize);
         self.pulls += 1;
         Ok(count)
     }

@@ -15,6 +15,7 @@ use Rattle.ny_heap.specs.declared.sound.Sound.{Sound}
 use Rattle.ny_heap.specs.Heap.{HeapState}
 use Rattle.ny_heap.specs.Means.{Whole}
 use Rattle.ny_heap.specs.Reach.{HeapLaws}
+use Rattle.ny_hands.specs.Calls.{ReleasesAll}
 use Rattle.ny_hands.specs.Frames.{Names, value_in, bound_in, sounds_among, part_is}
 use Rattle.ny_hands.specs.declared.branch.Branch.{Branch}
 use Rattle.ny_trace.specs.Evaluates.{Trace, BindsTurn, BlockTurn, ValuesTurn, CallTurn, sounds_of_values}
@@ -22,7 +23,7 @@ use Rattle.ny_hands.specs.Hands.{AllBegin, Item, item, sounds_in, Are, Comes, Ar
 use Rattle.ny_trace.specs.Laws.{IsLawful}
 use Rattle.ny_hands.proofs.ComingLemmas.{sounds_append, are_first, are_last, comes_none, comes_released}
 use Rattle.ny_hands.proofs.NameLemmas.{scalars_bound, bound_append, bound_zip, bound_stable, named_kept, named_append, named_among}
-use Rattle.ny_trace.proofs.ValueLemmas.{Agree, comes_then, comes_one, value_items, meant, value_in_is, value_meant, value_comes}
+use Rattle.ny_trace.proofs.ValueLemmas.{Agree, comes_then, value_items, meant, value_in_is, value_meant, value_comes}
 
 pub agree_append : (w l : Whole) (ps qs xs ys : List Item) → Agree w l ps xs → Agree w l qs ys → Agree w l (ps ++ qs) (xs ++ ys)
 agree_append w l [] qs [] ys p q = q
@@ -126,17 +127,29 @@ module _ (code : Code) where
           (bound_append l names (a ∷ []) ∙ (λ i. bound_stable old names named w l extends i ++ (a.0, value_in_is w l a.1 (bind_sound env b.1 f) are i) ∷ [])))
           first rest
 
+      -- binds leave their names with the sounds in hand
+      pub binds_leave : (env : Env) (bs : List (NameId × ExprId)) (names : Names) (old mid : HeapState Branch) (added : Names) → BindsBelow (length code.nodes) bs → HeapLaws old → AreNamed old names → BindsTurn D code env bs names old mid added → HeapLaws mid × AreNamed mid (names ++ added)
+      binds_leave env bs names old mid added below laws named step =
+          let binds = binds_come env bs names old mid added below laws named step in
+          let sounds_are = bind_sounds_are env bs names old mid (λ w. bound_in w names) added step in
+          (binds.hand.laws, named_append mid names added (named_kept old mid binds.hand.kept names named) (named_among mid added (subst (λ ss. AllBegin mid ss) (sym sounds_are) binds.hand.begin)))
+
+      -- what comes while binds are in hand, which are given up after it: it is told by what the names stand for
+      pub under_binds : (env : Env) (bs : List (NameId × ExprId)) (names : Names) (old mid end new : HeapState Branch) (added : Names) (told qs : List Item) → BindsBelow (length code.nodes) bs → HeapLaws old → AreNamed old names → BindsTurn D code env bs names old mid added → sounds_in told ≡ sounds_in qs → ((w l : Whole) → bound_in l (names ++ added) ≡ bound_after code (meaning code) env bs (bound_in w names) → Agree w l told qs) → Comes (part_is code) mid end told → ReleasesAll end new (sounds_among added) → Comes (part_is code) old new qs
+      under_binds env bs names old mid end new added told qs below laws named step same agree body given_up =
+          let f : Whole → Bound = λ w. bound_in w names in
+          let items : List Item = bind_items env bs f added in
+          let binds = binds_come env bs names old mid added below laws named step in
+          let all = comes_then (part_is code) old mid end items told qs same
+          (λ w l means extends are. agree w l (bound_grown env w l bs names old mid f added step (bound_stable old names named w l extends) are)) binds body in
+          comes_released (part_is code) old end new items qs (sounds_among added) laws (bind_sounds_are env bs names old mid f added step) all given_up
+
       pub block_comes : (env : Env) (bs : List (NameId × ExprId)) (e : ExprId) (names : Names) (old new : HeapState Branch) (s : Sound) → BindsBelow (length code.nodes) bs → e.0 < length code.nodes → HeapLaws old → AreNamed old names → BlockTurn D code bs e env names old new s → Comes (part_is code) old new (item s (λ w. meaning code e.0 env (bound_after code (meaning code) env bs (bound_in w names))) ∷ [])
       block_comes env bs e names old new s below inside laws named step =
-          let f : Whole → Bound = λ w. bound_in w names in
-          let items : List Item = bind_items env bs f step.added in
-          let binds = binds_come env bs names old step.mid step.added below laws named step.binds in
-          let sounds_are = bind_sounds_are env bs names old step.mid f step.added step.binds in
-          let seen : AreNamed step.mid (names ++ step.added) = named_append step.mid names step.added (named_kept old step.mid binds.hand.kept names named) (named_among step.mid step.added (subst (λ ss. AllBegin step.mid ss) (sym sounds_are) binds.hand.begin)) in
-          let body = law e.0 env (names ++ step.added) step.mid step.end s step.body inside binds.hand.laws seen in
-          let all = comes_one (part_is code) old step.mid step.end items s (λ l. meaning code e.0 env (bound_in l (names ++ step.added))) (λ w. meaning code e.0 env (bound_after code (meaning code) env bs (bound_in w names)))
-          (λ w l means extends are. ap (meaning code e.0 env) (bound_grown env w l bs names old step.mid f step.added step.binds (bound_stable old names named w l extends) are)) binds body in
-          comes_released (part_is code) old step.end new items (item s (λ w. meaning code e.0 env (bound_after code (meaning code) env bs (bound_in w names))) ∷ []) (sounds_among step.added) laws sounds_are all step.given_up
+          let left = binds_leave env bs names old step.mid step.added below laws named step.binds in
+          under_binds env bs names old step.mid step.end new step.added (item s (λ l. meaning code e.0 env (bound_in l (names ++ step.added))) ∷ []) (item s (λ w. meaning code e.0 env (bound_after code (meaning code) env bs (bound_in w names))) ∷ []) below laws named step.binds refl
+          (λ w l grown. (refl, ap (meaning code e.0 env) grown, tt))
+          (law e.0 env (names ++ step.added) step.mid step.end s step.body inside left.0 left.1) step.given_up
 
       -- ---- calls
 
@@ -185,14 +198,27 @@ module _ (code : Code) where
           let rest = args_are env names w l es step.0 new vs step.2 (are_last w l (value_items v f) (arg_items env names es vs) are) in
           λ i. first i ∷ rest i
 
+      -- arguments leave the names of the parameters with the sounds in hand
+      pub args_leave : (params : List NameId) (es : List ExprId) (env : Env) (names : Names) (old mid : HeapState Branch) (values : List (Value Sound)) → AllBelow (length code.nodes) es → HeapLaws old → AreNamed old names → ValuesTurn D code env names (take (length params) es) old mid values → HeapLaws mid × AreNamed mid (zip params values)
+      args_leave params es env names old mid values below laws named step =
+          let given : List ExprId = take (length params) es in
+          let args = args_come env names given old mid values (below_first (length params) (length code.nodes) es below) laws named step in
+          let sounds_are = arg_sounds env names given old mid values step in
+          (args.hand.laws, named_zip mid params values (subst (λ ss. AllBegin mid ss) (sym sounds_are) args.hand.begin))
+
+      -- what comes while arguments are in hand, which are given up after it: it is told by what the parameters stand for
+      pub under_args : (params : List NameId) (es : List ExprId) (env : Env) (names : Names) (old mid end new : HeapState Branch) (values : List (Value Sound)) (told qs : List Item) → AllBelow (length code.nodes) es → HeapLaws old → AreNamed old names → ValuesTurn D code env names (take (length params) es) old mid values → sounds_in told ≡ sounds_in qs → ((w l : Whole) → bound_in l (zip params values) ≡ zip params (map (value_of code (meaning code) env (bound_in w names)) es) → Agree w l told qs) → Comes (part_is code) mid end told → ReleasesAll end new (sounds_of_values values) → Comes (part_is code) old new qs
+      under_args params es env names old mid end new values told qs below laws named step same agree body given_up =
+          let given : List ExprId = take (length params) es in
+          let items : List Item = arg_items env names given values in
+          let args = args_come env names given old mid values (below_first (length params) (length code.nodes) es below) laws named step in
+          let all = comes_then (part_is code) old mid end items told qs same
+          (λ w l means extends are. agree w l (bound_zip l params values ∙ (ap (zip params) (args_are env names w l given old mid values step are) ∙ zip_first (value_of code (meaning code) env (bound_in w names)) params es))) args body in
+          comes_released (part_is code) old end new items qs (sounds_of_values values) laws (arg_sounds env names given old mid values step) all given_up
+
       pub call_comes : (params : List NameId) (body : ℕ) (es : List ExprId) (env : Env) (names : Names) (old new : HeapState Branch) (s : Sound) → AllBelow (length code.nodes) es → body < length code.nodes → HeapLaws old → AreNamed old names → CallTurn D code params body es env names old new s → Comes (part_is code) old new (item s (λ w. meaning code body env (zip params (map (value_of code (meaning code) env (bound_in w names)) es))) ∷ [])
       call_comes params body es env names old new s below inside laws named step =
-          let given : List ExprId = take (length params) es in
-          let items : List Item = arg_items env names given step.values in
-          let args = args_come env names given old step.mid step.values (below_first (length params) (length code.nodes) es below) laws named step.arguments in
-          let sounds_are = arg_sounds env names given old step.mid step.values step.arguments in
-          let seen : AreNamed step.mid (zip params step.values) = named_zip step.mid params step.values (subst (λ ss. AllBegin step.mid ss) (sym sounds_are) args.hand.begin) in
-          let within = law body env (zip params step.values) step.mid step.end s step.inside inside args.hand.laws seen in
-          let all = comes_one (part_is code) old step.mid step.end items s (λ l. meaning code body env (bound_in l (zip params step.values))) (λ w. meaning code body env (zip params (map (value_of code (meaning code) env (bound_in w names)) es)))
-          (λ w l means extends are. ap (meaning code body env) (bound_zip l params step.values ∙ (ap (zip params) (args_are env names w l given old step.mid step.values step.arguments are) ∙ zip_first (value_of code (meaning code) env (bound_in w names)) params es))) args within in
-          comes_released (part_is code) old step.end new items (item s (λ w. meaning code body env (zip params (map (value_of code (meaning code) env (bound_in w names)) es))) ∷ []) (sounds_of_values step.values) laws sounds_are all step.given_up
+          let left = args_leave params es env names old step.mid step.values below laws named step.arguments in
+          under_args params es env names old step.mid step.end new step.values (item s (λ l. meaning code body env (bound_in l (zip params step.values))) ∷ []) (item s (λ w. meaning code body env (zip params (map (value_of code (meaning code) env (bound_in w names)) es))) ∷ []) below laws named step.arguments refl
+          (λ w l same. (refl, ap (meaning code body env) same, tt))
+          (law body env (zip params step.values) step.mid step.end s step.inside inside left.0 left.1) step.given_up

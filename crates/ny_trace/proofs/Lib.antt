@@ -19,3 +19,8 @@ pub mod RevealLemmas
 pub mod RisingRevealLemmas
 pub mod SettlingRevealLemmas
 pub mod ReadyPartLemmas
+pub mod PlayedLemmas
+pub mod PlaysLemmas
+pub mod PlaysKeepLemmas
+pub mod PlaysSettlingLemmas
+pub mod PlaysStepLemmas

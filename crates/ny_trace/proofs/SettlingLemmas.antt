@@ -126,13 +126,13 @@ module _ (but : ℕ → Bool) where
     settled_value env names e old new (Number k) step all = subst (λ (h : HeapState Branch). SettledBut but h) step.1 all
     settled_value env names e old new (SoundOf s) step all = law e.0 env names old new s step.1 all
 
-    settled_binds : (env : Env) (bs : List (NameId × ExprId)) (names : Names) (old new : HeapState Branch) (added : Names) → BindsTurn D code env bs names old new added → SettledBut but old → SettledBut but new
+    pub settled_binds : (env : Env) (bs : List (NameId × ExprId)) (names : Names) (old new : HeapState Branch) (added : Names) → BindsTurn D code env bs names old new added → SettledBut but old → SettledBut but new
     settled_binds env [] names old new [] step all = subst (λ (h : HeapState Branch). SettledBut but h) step all
     settled_binds env [] names old new (a ∷ added) step all = absurd step
     settled_binds env (b ∷ bs) names old new [] step all = absurd step
     settled_binds env (b ∷ bs) names old new (a ∷ added) step all = settled_binds env bs (names ++ a ∷ []) step.0 new added step.3 (settled_value env names b.1 old step.0 a.1 step.2 all)
 
-    settled_values : (env : Env) (names : Names) (es : List ExprId) (old new : HeapState Branch) (vs : List (Value Sound)) → ValuesTurn D code env names es old new vs → SettledBut but old → SettledBut but new
+    pub settled_values : (env : Env) (names : Names) (es : List ExprId) (old new : HeapState Branch) (vs : List (Value Sound)) → ValuesTurn D code env names es old new vs → SettledBut but old → SettledBut but new
     settled_values env names [] old new [] step all = subst (λ (h : HeapState Branch). SettledBut but h) step all
     settled_values env names [] old new (v ∷ vs) step all = absurd step
     settled_values env names (e ∷ es) old new [] step all = absurd step
@@ -146,7 +146,7 @@ module _ (but : ℕ → Bool) where
         settled_made step.end new _ _ (step.first ∷ step.second ∷ []) [] (step.first ∷ step.second ∷ []) s (inl refl) step.made
         (settled_brought step.mid step.end r b step.second step.brings_second (settled_brought old step.mid r a step.first step.brings_first all))
 
-    settled_parts : (env : Env) (ps : List Part) (old new : HeapState Branch) (ss : List Sound) → PartsTurn D env ps old new ss → SettledBut but old → SettledBut but new
+    pub settled_parts : (env : Env) (ps : List Part) (old new : HeapState Branch) (ss : List Sound) → PartsTurn D env ps old new ss → SettledBut but old → SettledBut but new
     settled_parts env [] old new [] step all = subst (λ (h : HeapState Branch). SettledBut but h) step all
     settled_parts env [] old new (s ∷ ss) step all = absurd step
     settled_parts env (p ∷ ps) old new [] step all = absurd step

@@ -3,3 +3,4 @@ pub mod Laws
 pub mod Heights
 pub mod Settled
 pub mod Reveals
+pub mod Plays

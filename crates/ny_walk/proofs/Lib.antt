@@ -18,3 +18,4 @@ pub mod PlainLemmas
 pub mod HeardLemmas
 pub mod DriveLemmas
 pub mod TurnLemmas
+pub mod PlaysLemmas

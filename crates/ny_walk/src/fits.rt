@@ -1,4 +1,4 @@
-ghost use Rattle.std.specs.Prelude.{◌≡◌, ℕ, ◌+◌, ◌<◌, ◌≤◌, Some, length};
+ghost use Rattle.std.specs.Prelude.{◌≡◌, ℕ, ◌+◌, ◌<◌, ◌≤◌, List, Some, length};
 ghost use Rattle.ny_warp.specs.declared.env.Env.{Env};
 ghost use Rattle.ny_check.specs.Code.{Code, IsOrdered};
 ghost use Rattle.ny_heap.specs.declared.sound.Sound.{Sound};
@@ -9,6 +9,7 @@ ghost use Rattle.ny_hands.specs.Frames.{Names};
 ghost use Rattle.ny_timing.specs.Timings.{timing_at};
 ghost use Rattle.ny_trace.specs.Evaluates.{Evaluates, times_in};
 ghost use Rattle.ny_trace.specs.Laws.{KeepsFree};
+ghost use Rattle.ny_trace.specs.Plays.{Plays};
 ghost use Rattle.ny_trace.specs.Reveals.{PartTurn as HandedPart};
 ghost use Rattle.ny_walk.specs.Walk.{FillTurn, PartTurn};
 ghost use Rattle.ny_walk.specs.Fits.{Fits};
@@ -18,8 +19,9 @@ ghost use Rattle.ny_walk.specs.Fits.{Fits};
 pub fn fit_laws()
     // What is evaluated is heard when the timings of its names tell.
     ensures told { (code : Code) (n e : ℕ) (env : Env) (names : Names) (old new : HeapState Branch) (s : Sound) → Evaluates code n e env names old new s → IsOrdered code → e < length code.nodes → s.timing ≡ timing_at code e env (times_in names) }
-    // Evaluation leaves parts that fit, and so do a fill and a part that is revealed.
+    // Evaluation leaves parts that fit, and so do that of what is played, a fill, and a part that is revealed.
     ensures evaluates { (code : Code) (n e : ℕ) (env : Env) (names : Names) (old new : HeapState Branch) (s : Sound) → Evaluates code n e env names old new s → IsOrdered code → KeepsFree code → e < length code.nodes → Fits code old → Fits code new }
+    ensures plays { (code : Code) (n e : ℕ) (env : Env) (names : Names) (old new : HeapState Branch) (ss : List Sound) → Plays code n e env names old new ss → IsOrdered code → KeepsFree code → e < length code.nodes → Fits code old → Fits code new }
     ensures fills { (code : Code) (old new : HeapState Branch) (u : ℕ) → FillTurn old new u → Fits code old → Fits code new }
     ensures reveals { (code : Code) (old new : HeapState Branch) (u : ℕ) → PartTurn code old u new → IsOrdered code → KeepsFree code → HeapLaws old → Fits code old → Fits code new }
     // The part that was handed out and evaluated ends no later than its unit.

@@ -9,6 +9,7 @@ ghost use Rattle.ny_hands.specs.Frames.{Names};
 ghost use Rattle.ny_trace.specs.Evaluates.{Evaluates};
 ghost use Rattle.ny_trace.specs.Heights.{IsTall};
 ghost use Rattle.ny_trace.specs.Laws.{KeepsFree};
+ghost use Rattle.ny_trace.specs.Plays.{Plays};
 ghost use Rattle.ny_walk.specs.Walk.{Walks};
 ghost use Rattle.ny_walk.specs.Stops.{StopsAtFull, RunsOut, NoneWaits};
 ghost use Rattle.ny_walk.specs.Parts.{AllPartsOf};
@@ -25,7 +26,9 @@ pub fn walk_laws()
     ensures heard { (code : Code) (n : ℕ) (old new : HeapState Branch) (u : ℕ) (us : List ℕ) → Walks code n old u us new ⊎ StopsAtFull code n old u us new → IsOrdered code → KeepsFree code → (tall : ℕ → ℕ) → IsTall code tall → (left : ℕ) → IsSome (node_at old u) → HeapLaws old → IsSettled old → IsRanked tall old u left → StaysHeard code old new }
     // Evaluation leaves what is known of the parts that wait, as a walk does.
     ensures makes { (code : Code) (n e : ℕ) (env : Env) (names : Names) (old new : HeapState Branch) (s : Sound) → Evaluates code n e env names old new s → IsOrdered code → e < length code.nodes → AllPartsOf code old → AllPartsOf code new }
-    // It stops where no block is free.
+    // So does the evaluation of what is played.
+    ensures plays_makes { (code : Code) (n e : ℕ) (env : Env) (names : Names) (old new : HeapState Branch) (ss : List Sound) → Plays code n e env names old new ss → IsOrdered code → e < length code.nodes → AllPartsOf code old → AllPartsOf code new }
+    // A walk stops where no block is free.
     ensures full { (code : Code) (n : ℕ) (old new : HeapState Branch) (u : ℕ) (us : List ℕ) → StopsAtFull code n old u us new → free_of new ≡ 0 }
     // Where no part waits none waits afterwards, a walk either ends or stops, and memory is not missing.
     ensures quiet { (code : Code) (n : ℕ) (old new : HeapState Branch) (u : ℕ) (us : List ℕ) → Walks code n old u us new → NoneWaits old → NoneWaits new }

@@ -1,5 +1,6 @@
 use Rattle.std.proofs.Common.{inl, inr}
 use Rattle.ny_walk.proofs.PartsLemmas.{evaluates_parts}
+use Rattle.ny_walk.proofs.PlaysLemmas.{plays_parts}
 use Rattle.ny_walk.proofs.TurnLemmas.{walked, stopped, walked_heard, stopped_heard, stopped_full, none_waits, never_out, ends_only}
 use Rattle.ny_walk.proofs.laws.walk_laws.Goals as goal
 
@@ -11,6 +12,9 @@ returns-clause-stops c = λ code n old new u us walk ordered free tall is left t
 
 pub returns-clause-makes : goal.returns-clause-makes
 returns-clause-makes c = λ code n e env names old new s t ordered inside all. evaluates_parts code ordered n e env names old new s t inside all
+
+pub returns-clause-plays_makes : goal.returns-clause-plays_makes
+returns-clause-plays_makes c = λ code n e env names old new ss t ordered inside all. plays_parts code ordered n e env names old new ss t inside all
 
 pub returns-clause-full : goal.returns-clause-full
 returns-clause-full c = λ code n old new u us walk. stopped_full code n old new u us walk

@@ -1,0 +1,14 @@
+-- The channel at a place.
+use Rattle.std.proofs.Common.{◌≡◌, ℕ, ◌<◌, List, Option, None, Some, length, slice_get, slice_index_or, sym, ap, ◌∙◌}
+use Rattle.std.proofs.lemmas.Option.{slice_get-get_or}
+use Rattle.ny_heap.specs.declared.sound.Sound.{Sound}
+use Rattle.ny_hands.proofs.OptionLemmas.{some_same}
+
+pub got : (os : List (Option Sound)) (c : ℕ) (d : Option Sound) (s : Sound) → c < length os → slice_index_or os c d ≡ Some s → slice_get os c ≡ Some (Some s)
+got os c d s less is = slice_get-get_or os c d less ∙ ap (λ o. Some o) is
+
+pub got_same : (os : List (Option Sound)) (c : ℕ) (d : Option Sound) (s t : Sound) → c < length os → slice_index_or os c d ≡ Some s → slice_get os c ≡ Some (Some t) → s ≡ t
+got_same os c d s t less is at = some_same s t (some_same (Some s) (Some t) (sym (got os c d s less is) ∙ at))
+
+pub got_none : (os : List (Option Sound)) (c : ℕ) (d : Option Sound) → c < length os → slice_index_or os c d ≡ None → slice_get os c ≡ Some None
+got_none os c d less is = slice_get-get_or os c d less ∙ ap (λ o. Some o) is
