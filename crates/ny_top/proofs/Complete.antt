@@ -7,8 +7,8 @@ use Rattle.ny_io.specs.Host.{HostState, Named, bytes_under}
 use Rattle.ny_top.specs.declared.status.Status.{Status}
 use Rattle.ny_top.specs.declared.status.Status.TheVariants.{Ok, Usage, OpenFault, ReadFault, WriteFault, Refused, PoolFull, OutOfMemory}
 use Rattle.ny_check.specs.Code.{Code}
+use Rattle.ny_check.specs.Acceptance.{program_in}
 use Rattle.ny_pull.specs.Engine.{EngineState}
-use Rattle.ny_top.specs.Channel.{playable}
 use Rattle.ny_top.specs.Words.{Render, Task, Command, render, check}
 use Rattle.ny_top.specs.Outcome.{Outcome, HasProgramOutcome, HasReadOutcome, HasTextOutcome, HasCommandOutcome, IsRefused, IsUnrefused}
 use Rattle.ny_top.specs.Ends.{EndsAs, NoneRose, CreateCause, NoCreateRose, OpenCause, ReadCause, TaskPoolFull, is_whole}
@@ -88,7 +88,7 @@ completes asked left OutOfMemory old new causes quiet = for_files (Completes ask
 -- ---- refusals leave no engine
 
 refused_program : (r : Render) (program : Option Code) (left : Option EngineState) (o : Outcome) → HasProgramOutcome r program left o → o.status ≡ Refused → left ≡ None
-refused_program r None left o has is = has.0
+refused_program r None left o has is = absurd has
 refused_program r (Some code) None o has is = absurd has
 refused_program r (Some code) (Some e) o (inl (ended, o_is)) is = absurd (not_ok (sym (ap (λ p. p.status) o_is) ∙ is))
   where
@@ -101,7 +101,7 @@ refused_program r (Some code) (Some e) o (inr (n, stopped, o_is)) is = absurd (n
 
 refused_read : (task : Task) (text : List ℕ) (left : Option EngineState) (o : Outcome) → HasReadOutcome task text left o → o.status ≡ Refused → left ≡ None
 refused_read task text left o (inl (a, has, none, o_is)) is = none
-refused_read (render r) text left o (inr (tree, accepted, has)) is = refused_program r (playable tree) left o has is
+refused_read (render r) text left o (inr (tree, accepted, has)) is = refused_program r (program_in tree) left o has is
 refused_read check text left o (inr (tree, accepted, has)) is = has.0
 
 refused_left : (asked : Option Command) (files : List Named) (left : Option EngineState) (o : Outcome) → HasCommandOutcome asked files left o → o.status ≡ Refused → left ≡ None

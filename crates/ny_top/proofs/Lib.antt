@@ -5,9 +5,10 @@ pub mod Parts
 pub mod FaultLines
 pub mod Outcomes
 pub mod Stages
+pub mod PulledLists
 pub mod PullLemmas
+pub mod FrameLemmas
 pub mod RoundLemmas
-pub mod MonoLemmas
 pub mod FileLemmas
 pub mod OneOutcome
 pub mod Complete

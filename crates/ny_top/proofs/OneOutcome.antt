@@ -1,5 +1,5 @@
 -- A text has one outcome at most, so words have one over the same files.
-use Rattle.std.proofs.Common.{◌≡◌, ℕ, List, [], ◌∷◌, length, slice_index, sym, subst, ap, ◌∙◌, arith, None, Some, inl, inr}
+use Rattle.std.proofs.Common.{◌≡◌, ℕ, List, length, sum, sym, subst, ap, ◌∙◌, arith, None, Some, inl, inr}
 use Rattle.std.specs.declared.option.Option.{Option}
 use Rattle.ny_io.specs.Host.{Named, bytes_under}
 use Rattle.ny_syntax.specs.declared.token.Token.{Token}
@@ -11,7 +11,7 @@ use Rattle.ny_parse.specs.Prefix.{StopsAt}
 use Rattle.ny_parse.proofs.OneTree.{one_tree as tree-unique}
 use Rattle.ny_parse.proofs.OnePlace.{stops-no_tree, stops-unique}
 use Rattle.ny_resolve.specs.declared.fault.Fault.{Fault}
-use Rattle.ny_check.specs.Acceptance.{fault_of}
+use Rattle.ny_check.specs.Acceptance.{fault_of, program_in}
 use Rattle.ny_top.specs.declared.reading.Refusal.{Refusal}
 use Rattle.ny_top.specs.declared.reading.Refusal.TheVariants.{Lex, Parse, Check}
 use Rattle.ny_check.specs.Code.{Code}
@@ -19,8 +19,8 @@ use Rattle.ny_pull.specs.declared.fault.PullFault.{PullFault}
 use Rattle.ny_pull.specs.declared.fault.PullFault.TheVariants.{PoolFull}
 use Rattle.ny_pull.specs.Engine.{EngineState}
 use Rattle.ny_top.specs.Words.{Render, Task, Command, render, check}
-use Rattle.ny_top.specs.Channel.{playable}
 use Rattle.ny_top.specs.Playing.{HasPlayed, IsFullAfter}
+use Rattle.ny_top.proofs.PullLemmas.{one_round}
 use Rattle.ny_top.specs.Reading.{IsTreeOf, IsAccepted, IsRefusal, refusal_text}
 use Rattle.ny_top.specs.Outcome.{Outcome, refused, full, HasPlayOutcome, HasProgramOutcome, HasTreeOutcome, HasReadOutcome, HasTextOutcome, HasCommandOutcome}
 
@@ -81,28 +81,26 @@ refusal_or_tree text (Check at why) tree (second, again, fault) (has, accepted) 
     no_fault (fault_of tree) (record { at = at; why = why }) accepted (ap fault_of (sym (one_tree text tree second has again)) ∙ fault)
 
 -- an engine that was pulled to its end was not spent
-played_or_full : (r : Render) (code : Code) (e : EngineState) (pulls : ℕ) → HasPlayed r code e → IsFullAfter r code pulls e → ⊥
-played_or_full r code e pulls ended stopped = never e.spent (PoolFull pulls r.pool) ended.unspent stopped.spent
+played_or_full : (r : Render) (code : Code) (e : EngineState) (rounds : ℕ) → HasPlayed r code e → IsFullAfter r code rounds e → ⊥
+played_or_full r code e rounds ended stopped = never e.spent (PoolFull (sum e.pulled) r.pool) ended.unspent stopped.spent
   where
     never : (o : Option PullFault) (fault : PullFault) → o ≡ None → o ≡ Some fault → ⊥
     never o fault none is = cc
-
-same_head : (n m : ℕ) → n ∷ [] ≡ m ∷ [] → m ≡ n
-same_head n m e = sym (ap (λ xs. slice_index xs 0) e)
 
 one_play : (r : Render) (code : Code) (e : EngineState) (o p : Outcome) → HasPlayOutcome r code e o → HasPlayOutcome r code e p → p ≡ o
 one_play r code e o p (inl (ended, o_is)) (inl (again, p_is)) = p_is ∙ sym o_is
 one_play r code e o p (inl (ended, o_is)) (inr (n, stopped, p_is)) = absurd (played_or_full r code e n ended stopped)
 one_play r code e o p (inr (n, stopped, o_is)) (inl (ended, p_is)) = absurd (played_or_full r code e n ended stopped)
-one_play r code e o p (inr (n, stopped, o_is)) (inr (m, again, p_is)) = p_is ∙ ap (full r code) (same_head n m (sym stopped.pulls ∙ again.pulls)) ∙ sym o_is
+one_play r code e o p (inr (n, stopped, o_is)) (inr (m, again, p_is)) =
+    p_is ∙ ap (λ k. full r code k (sum e.pulled)) (one_round e n stopped.at m again.at stopped.pulls again.pulls) ∙ sym o_is
 
 one_program : (r : Render) (program : Option Code) (left : Option EngineState) (o p : Outcome) → HasProgramOutcome r program left o → HasProgramOutcome r program left p → p ≡ o
-one_program r None left o p is again = again.1 ∙ sym is.1
+one_program r None left o p is again = absurd is
 one_program r (Some code) None o p is again = absurd is
 one_program r (Some code) (Some e) o p is again = one_play r code e o p is again
 
 one_of_tree : (task : Task) (tree : Tree) (left : Option EngineState) (o p : Outcome) → HasTreeOutcome task tree left o → HasTreeOutcome task tree left p → p ≡ o
-one_of_tree (render r) tree left o p is again = one_program r (playable tree) left o p is again
+one_of_tree (render r) tree left o p is again = one_program r (program_in tree) left o p is again
 one_of_tree check tree left o p is again = again.1 ∙ sym is.1
 
 one_read : (task : Task) (text : List ℕ) (left : Option EngineState) (o p : Outcome) → HasReadOutcome task text left o → HasReadOutcome task text left p → p ≡ o

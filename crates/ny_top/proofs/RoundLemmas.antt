@@ -1,17 +1,27 @@
 -- A file that is written in rounds, and the engine that is pulled for it.
-use Rattle.std.proofs.Common.{◌≡◌, ℕ, ◌+◌, ◌-◌, ◌*◌, ◌<◌, ◌≤◌, List, [], ◌∷◌, ◌++◌, take, drop, length, Some, Result, Ok, Err, OnOk, OnErr, IfErr, refl, sym, ap, subst, ◌∙◌, arith, ℤ, slice_index, length-append, lt_of_mul-lt-mul_right, lt_of_not-le}
+use Rattle.std.proofs.Common.{◌≡◌, ℕ, zero, suc, ◌+◌, ◌-◌, ◌*◌, ◌<◌, ◌≤◌, ◌⊎◌, List, [], ◌∷◌, ◌++◌, map, take, drop, length, Some, Result, Ok, Err, OnOk, OnErr, IfErr, refl, sym, ap, subst, ◌∙◌, arith, ℤ, pos, slice_index, slice_index_or, sum, length-append, length-take, length-drop, inl, inr}
 use Rattle.std.specs.Int.{div_ceil}
-use Rattle.std.proofs.lemmas.List.{take-append-drop, take-append-le, take_all}
+use Rattle.std.specs.List.{flat_map}
+use Rattle.std.proofs.lemmas.Bool.{cases_lt}
+use Rattle.std.proofs.lemmas.List.{take-append-drop, take-append-le, take_all, get_or_past, get_or-take, get_or_append_left, get_or-append_right}
+use Rattle.std.proofs.lemmas.List.Concat.{flat_map-append}
 use Rattle.std.proofs.Math.Seq.{take-add, take-append-add}
-use Rattle.std.proofs.lemmas.Grind.{div_ceil_times}
 use Rattle.ny_io.specs.Host.{HostState, NoneFell, SameCounts, written}
 use Rattle.ny_io.proofs.Written.{written-then, written-nothing}
+use Rattle.ny_num.specs.Sound as sounds
+use Rattle.ny_num.specs.Sound.{silence, value_at}
+use Rattle.ny_check.specs.Channels.{channels, frames, longest}
 use Rattle.ny_pull.specs.declared.fault.PullFault.TheVariants as faults
-use Rattle.ny_pull.specs.Engine.{EngineState, channel_at, passed_of, next_block, HasEnded, SamePiece}
+use Rattle.ny_pull.specs.Engine.{EngineState, channel_at, passed_of, SamePiece}
 use Rattle.ny_wav.specs.WavFile.{frame_of}
-use Rattle.ny_wav.proofs.Frames.{frame_of-nil, frame_of-append}
-use Rattle.ny_top.specs.Rounds.{IsUnderway, Wrote, WrotePart, IsPulledOut, IsRoundFault, EndsRounds}
-use Rattle.ny_top.proofs.PullLemmas.{one_of, one_more, same_channel}
+use Rattle.ny_top.specs.Frames.{heard_at, IsBlock}
+use borrow.Rule.Slice.PartMut.{put_mid}
+use Rattle.std.proofs.lemmas.Slice.{take-put_mid}
+use Rattle.ny_top.specs.Playing.{pulls_of, pulls_in}
+use Rattle.ny_top.specs.Rounds.{IsUnderway, Wrote, WrotePart, IsPulledOut, IsPullFault, IsRoundFault, EndsRounds, frames_at, all_bytes, bytes_after, bytes_of_round}
+use Rattle.ny_top.proofs.FrameLemmas.{frames_count}
+use Rattle.ny_top.proofs.PulledLists.{map_at, same_counts, parted_all, parted_none}
+use Rattle.ny_top.proofs.PullLemmas.{no_samples, same_channel, some_left, none_left, next_multiple, one_more, fewer_blocks}
 use Rattle.ny_top.proofs.Stages.{rose_from, quiet_none, quiet_then}
 use Rattle.ny_top.specs.declared.rounds.RoundFault.{RoundFault}
 use Rattle.ny_top.specs.declared.rounds.RoundFault.TheVariants.{Write, PoolFull, OutOfMemory}
@@ -42,24 +52,25 @@ part_then a b old mid new first part = (
 pub part_nothing : (a : List ℕ) (old new : HostState) → new.created ≡ old.created → WrotePart a old new
 part_nothing a old new same = (0, omega arith, same ∙ sym (written-nothing old.created))
 
-frames_split : (n : ℕ) (xs : List ℤ) → frame_of (take n xs) ++ frame_of (drop n xs) ≡ frame_of xs
-frames_split n xs = sym (frame_of-append (take n xs) (drop n xs)) ∙ ap frame_of (take-append-drop n xs)
-
 -- the frames of one block more
-pub more_frames : (xs : List ℤ) (passed block : ℕ) (old mid new : HostState) → Wrote (frame_of (take passed xs)) old mid
-    → Wrote (frame_of (take block (drop passed xs))) mid new → Wrote (frame_of (take (passed + block) xs)) old new
-more_frames xs passed block old mid new before more =
-    wrote_both (frame_of (take passed xs)) (frame_of (take block (drop passed xs))) old mid new before more
-    ∙ ap (λ bytes. written bytes old.created) (sym (frame_of-append (take passed xs) (take block (drop passed xs))) ∙ ap frame_of (sym (take-add passed block xs)))
+pub more_frames : (fs : List (List ℤ)) (passed block : ℕ) (old mid new : HostState) → Wrote (flat_map frame_of (take passed fs)) old mid
+    → Wrote (flat_map frame_of (take block (drop passed fs))) mid new → Wrote (flat_map frame_of (take (passed + block) fs)) old new
+more_frames fs passed block old mid new before more =
+    wrote_both (flat_map frame_of (take passed fs)) (flat_map frame_of (take block (drop passed fs))) old mid new before more
+    ∙ ap (λ bytes. written bytes old.created) (sym (flat_map-append frame_of (take passed fs) (take block (drop passed fs))) ∙ ap (flat_map frame_of) (sym (take-add passed block fs)))
+
+frames_split : (n : ℕ) (fs : List (List ℤ)) → flat_map frame_of (take n fs) ++ flat_map frame_of (drop n fs) ≡ flat_map frame_of fs
+frames_split n fs = sym (flat_map-append frame_of (take n fs) (drop n fs)) ∙ ap (flat_map frame_of) (take-append-drop n fs)
 
 -- some of the frames of one block more
-pub more_part : (xs : List ℤ) (passed block : ℕ) (old mid new : HostState) → Wrote (frame_of (take passed xs)) old mid
-    → WrotePart (frame_of (take block (drop passed xs))) mid new → WrotePart (frame_of xs) old new
-more_part xs passed block old mid new before part =
-    let rest : List ℤ = drop passed xs in
-    subst (λ bytes. WrotePart bytes old new) (frames_split passed xs)
-    (part_then (frame_of (take passed xs)) (frame_of rest) old mid new before
-    (subst (λ bytes. WrotePart bytes mid new) (frames_split block rest) (part_first (frame_of (take block rest)) (frame_of (drop block rest)) mid new part)))
+pub more_part : (fs : List (List ℤ)) (passed block : ℕ) (old mid new : HostState) → Wrote (flat_map frame_of (take passed fs)) old mid
+    → WrotePart (flat_map frame_of (take block (drop passed fs))) mid new → WrotePart (flat_map frame_of fs) old new
+more_part fs passed block old mid new before part =
+    let rest : List (List ℤ) = drop passed fs in
+    subst (λ bytes. WrotePart bytes old new) (frames_split passed fs)
+    (part_then (flat_map frame_of (take passed fs)) (flat_map frame_of rest) old mid new before
+    (subst (λ bytes. WrotePart bytes mid new) (frames_split block rest)
+    (part_first (flat_map frame_of (take block rest)) (flat_map frame_of (drop block rest)) mid new part)))
 
 -- ---- rounds
 
@@ -72,86 +83,176 @@ same_then start mid new first second = record {
   block = second.block ∙ first.block;
 }
 
--- the frames of the rounds so far were written
-abbrev pub SoFar : EngineState → EngineState → HostState → HostState → Type 0
-SoFar start e old new = Wrote (frame_of (take (passed_of e 0) (channel_at start 0))) old new
+-- the blocks of the channels before c
+abbrev pub BlocksSoFar : EngineState → ℕ → ℕ → List ℤ → Type 0
+BlocksSoFar e rounds c xs =
+    (d n : ℕ) → d < c → n < e.heap.block → slice_index_or xs (d * e.heap.block + n) (pos 0) ≡ heard_at e d (rounds * e.heap.block + n)
 
-pub round_wrote : (start mid new : EngineState) (old now later : HostState) → SamePiece start mid → SoFar start mid old now
-    → Wrote (frame_of (next_block mid 0)) now later → passed_of new 0 ≡ passed_of mid 0 + mid.heap.block → SoFar start new old later
-round_wrote start mid new old now later same before more passed =
-    let next : Wrote (frame_of (take mid.heap.block (drop (passed_of mid 0) (channel_at start 0)))) now later =
-    subst (λ xs. Wrote (frame_of (take mid.heap.block (drop (passed_of mid 0) xs))) now later) (same_channel start mid same) more in
-    subst (λ n. Wrote (frame_of (take n (channel_at start 0))) old later) (sym passed) (more_frames (channel_at start 0) (passed_of mid 0) mid.heap.block old now later before next)
+-- a part that is put into a list: what stands before it, and in it
+put_before : (xs part : List ℤ) (a k i : ℕ) → a + length part ≤ length xs → i < a → slice_index_or (put_mid a k xs part) i (pos 0) ≡ slice_index_or xs i (pos 0)
+put_before xs part a k i within less =
+    sym (get_or-take (a + length part) (put_mid a k xs part) i (pos 0) (omega (arith, less)))
+    ∙ ap (λ (ys : List ℤ). slice_index_or ys i (pos 0)) (take-put_mid a k xs part (a + length part) refl (omega (arith, within)))
+    ∙ get_or_append_left (take a xs) part (pos 0) i (omega (arith, less, length-take a xs, within))
+    ∙ get_or-take a xs i (pos 0) less
 
-pub round_part : (start mid : EngineState) (old now later : HostState) → SamePiece start mid → SoFar start mid old now
-    → WrotePart (frame_of (next_block mid 0)) now later → WrotePart (frame_of (channel_at start 0)) old later
-round_part start mid old now later same before part =
-    more_part (channel_at start 0) (passed_of mid 0) mid.heap.block old now later before
-    (subst (λ xs. WrotePart (frame_of (take mid.heap.block (drop (passed_of mid 0) xs))) now later) (same_channel start mid same) part)
+put_in : (xs part : List ℤ) (a k n : ℕ) → a + length part ≤ length xs → n < length part → slice_index_or (put_mid a k xs part) (a + n) (pos 0) ≡ slice_index_or part n (pos 0)
+put_in xs part a k n within less =
+    sym (get_or-take (a + length part) (put_mid a k xs part) (a + n) (pos 0) (omega (arith, less)))
+    ∙ ap (λ (ys : List ℤ). slice_index_or ys (a + n) (pos 0)) (take-put_mid a k xs part (a + length part) refl (omega (arith, within)))
+    ∙ get_or-append_right (take a xs) part a (a + n) (pos 0) (length-take a xs ∙ omega (arith, within)) (omega arith)
+    ∙ ap (λ j. slice_index_or part j (pos 0)) (let e : a + n - a ≡ n = omega arith in e)
 
-pub ends_rounds : (start mid e : EngineState) (old now later : HostState) (fault : RoundFault) → SamePiece start mid → NoneFell old now → SameCounts old now → SoFar start mid old now
-    → IsRoundFault mid e now later fault → EndsRounds start e old later fault
-ends_rounds start mid e old now later Write same counts quiet before rose = rose_from old.writes now.writes later.writes counts.writes rose
-ends_rounds start mid e old now later (PoolFull n) same counts quiet before (pulled, spent, kept, still) =
-    let passed : passed_of mid 0 ≡ n * start.heap.block = ap (λ xs. slice_index xs 0 * mid.heap.block) pulled ∙ ap (λ b. n * b) same.block in (
-      record {
-        same = same_then start mid e same spent.same;
-        pulls = spent.pulls;
-        spent = spent.spent ∙ ap (λ pool. Some (faults.PoolFull n pool)) same.pool;
-        stopped = spent.stopped;
-      },
-      kept ∙ before ∙ ap (λ m. written (frame_of (take m (channel_at start 0))) old.created) passed,
-      quiet_then old now later quiet still,
-    )
-ends_rounds start mid e old now later OutOfMemory same counts quiet before (n, pulled, short, kept, still) =
-    let passed : passed_of mid 0 ≡ n * start.heap.block = ap (λ xs. slice_index xs 0 * mid.heap.block) pulled ∙ ap (λ b. n * b) same.block in (
-      n,
-      record { same = same_then start mid e same short.same; pulls = short.pulls; short = short.short },
-      kept ∙ before ∙ ap (λ m. written (frame_of (take m (channel_at start 0))) old.created) passed,
-      quiet_then old now later quiet still,
-    )
+-- so much of a list is a block
+pub part_size : (xs : List ℤ) (a b : ℕ) → a + b ≤ length xs → length (take (a + b - a) (drop a xs)) ≡ b
+part_size xs a b within = length-take (a + b - a) (drop a xs) ∙ omega (arith, length-drop a xs, within)
 
--- two multiples of b that lie within one b above a number are the same
-one_multiple : (k d b len : ℕ) → len ≤ k * b → k * b < len + b → len ≤ d * b → d * b < len + b → k ≡ d
-one_multiple k d b len k_low k_high d_low d_high =
-    let up : k * b < (d + 1) * b = omega (arith, k_high, d_low, one_more d b) in
-    let down : d * b < (k + 1) * b = omega (arith, d_high, k_low, one_more k b) in
-    let below : k < d + 1 = lt_of_mul-lt-mul_right b up in
-    let above : d < k + 1 = lt_of_mul-lt-mul_right b down in
-    omega (arith, below, above)
+-- the block of one channel more
+pub blocks_more : (start mid : EngineState) (rounds c k : ℕ) (xs part : List ℤ) → SamePiece start mid → length part ≡ start.heap.block → c * start.heap.block + start.heap.block ≤ length xs
+    → BlocksSoFar start rounds c xs → IsBlock mid rounds c part → BlocksSoFar start rounds (c + 1) (put_mid (c * start.heap.block) k xs part)
+blocks_more start mid rounds c k xs part same size within so_far next d n before less = of (cases_lt d c)
+  where
+    b : ℕ
+    b = start.heap.block
 
-pub pulled_out : (start e : EngineState) → SamePiece start e → IsUnderway e → HasEnded e 0 → IsPulledOut start e
-pulled_out start e same under ended =
-    let k = slice_index e.pulled 0 in
-    let b = start.heap.block in
-    let len = length (channel_at start 0) in
-    let size : length (channel_at e 0) ≡ len = ap length (same_channel start e same) in
-    let passed : passed_of e 0 ≡ k * b = ap (λ n. k * n) same.block in
-    let positive : 0 < b = omega (arith, under.laws.positive, same.block) in
-    let bounds = div_ceil_times len b positive in
-    record {
-      same = same;
-      pulls = one_of e.pulled under.one ∙ ap (λ (n : ℕ). n ∷ []) (one_multiple k (div_ceil len b) b len (omega (arith, ended, size, passed)) (omega (arith, under.gave, size, passed, same.block)) bounds.0 bounds.1);
-      ended = ended;
-      unspent = under.unspent;
-    }
+    heard_same : heard_at mid c (rounds * mid.heap.block + n) ≡ heard_at start c (rounds * start.heap.block + n)
+    heard_same = λ i. value_at (slice_index_or (channels (same.code i) (same.rate i)) c (silence (same.rate i))) (rounds * same.block i + n)
 
-pub wrote_all : (start e : EngineState) (old new : HostState) → SamePiece start e → HasEnded e 0 → SoFar start e old new → Wrote (frame_of (channel_at start 0)) old new
-wrote_all start e old new same ended before =
-    before ∙ ap (λ xs. written (frame_of xs) old.created) (take_all (passed_of e 0) (channel_at start 0) (omega (arith, ended, ap length (same_channel start e same))))
+    of : (d < c) ⊎ (c ≤ d) → slice_index_or (put_mid (c * b) k xs part) (d * b + n) (pos 0) ≡ heard_at start d (rounds * b + n)
+    of (inl early) =
+        put_before xs part (c * b) k (d * b + n) (omega (arith, size, within)) (omega (arith, less, one_more d b, fewer_blocks (suc d) c b early))
+        ∙ so_far d n early less
+    of (inr late) =
+        let is : d ≡ c = omega (arith, late, before) in
+        ap (λ e. slice_index_or (put_mid (c * b) k xs part) (e * b + n) (pos 0)) is
+        ∙ put_in xs part (c * b) k n (omega (arith, size, within)) (omega (arith, size, less))
+        ∙ next n (omega (arith, less, same.block))
+        ∙ heard_same
+        ∙ ap (λ e. heard_at start e (rounds * b + n)) (sym is)
+
+-- behind its last channel a round is whole
+pub under_next : (rounds c : ℕ) (e : EngineState) → length e.channels ≤ c → IsUnderway rounds c e → IsUnderway (rounds + 1) 0 e
+under_next rounds c e past under = record {
+  count = under.count;
+  pulls =
+      under.pulls
+      ∙ parted_all (pulls_in e.heap.block (rounds + 1)) (pulls_in e.heap.block rounds) c (channels e.code e.rate) (omega (arith, past, under.count))
+      ∙ sym (parted_none (pulls_in e.heap.block (rounds + 1 + 1)) (pulls_in e.heap.block (rounds + 1)) (channels e.code e.rate));
+  unspent = under.unspent;
+  laws = under.laws;
+}
+
+-- pieces of the same engine have the same frames
+same_frames : (start mid : EngineState) → SamePiece start mid → frames_at mid ≡ frames_at start
+same_frames start mid same = λ i. frames (channels (same.code i) (same.rate i))
+
+pub round_wrote : (start mid : EngineState) (rounds : ℕ) (old now later : HostState) → SamePiece start mid → Wrote (bytes_after start rounds) old now
+    → Wrote (bytes_of_round mid rounds) now later → Wrote (bytes_after start (rounds + 1)) old later
+round_wrote start mid rounds old now later same before more =
+    let next : Wrote (bytes_of_round start rounds) now later =
+    subst (λ (bytes : List ℕ). Wrote bytes now later) (λ i. flat_map frame_of (take (same.block i) (drop (rounds * same.block i) (same_frames start mid same i)))) more in
+    subst (λ n. Wrote (flat_map frame_of (take n (frames_at start))) old later) (sym (next_multiple rounds start.heap.block))
+    (more_frames (frames_at start) (rounds * start.heap.block) start.heap.block old now later before next)
+
+pub round_part : (start mid : EngineState) (rounds : ℕ) (old now later : HostState) → SamePiece start mid → Wrote (bytes_after start rounds) old now
+    → WrotePart (bytes_of_round mid rounds) now later → WrotePart (all_bytes start) old later
+round_part start mid rounds old now later same before part =
+    more_part (frames_at start) (rounds * start.heap.block) start.heap.block old now later before
+    (subst (λ (bytes : List ℕ). WrotePart bytes now later) (λ i. flat_map frame_of (take (same.block i) (drop (rounds * same.block i) (same_frames start mid same i)))) part)
+
+-- a fault of a round is one of the engine that the rounds began with
+fault_from : (start mid e : EngineState) (rounds : ℕ) (fault : RoundFault) → SamePiece start mid → IsPullFault mid e rounds fault → IsPullFault start e rounds fault
+fault_from start mid e rounds Write same never = never
+fault_from start mid e rounds (PoolFull pulls) same (count, spent) = (
+  count,
+  record {
+    same = same_then start mid e same spent.same;
+    at = spent.at;
+    pulls = spent.pulls;
+    spent = spent.spent ∙ ap (λ pool. Some (faults.PoolFull (sum e.pulled) pool)) same.pool;
+    stopped = spent.stopped;
+  },
+)
+fault_from start mid e rounds OutOfMemory same short =
+    record { same = same_then start mid e same short.same; at = short.at; pulls = short.pulls; short = short.short }
+
+pub ends_rounds : (start mid e : EngineState) (rounds : ℕ) (old now later : HostState) (fault : RoundFault) → SamePiece start mid → NoneFell old now → SameCounts old now
+    → Wrote (bytes_after start rounds) old now → IsRoundFault mid e rounds now later fault → EndsRounds start e old later fault
+ends_rounds start mid e rounds old now later Write same counts quiet before rose = rose_from old.writes now.writes later.writes counts.writes rose
+ends_rounds start mid e rounds old now later (PoolFull n) same counts quiet before (ended, kept, still) =
+    (rounds, fault_from start mid e rounds (PoolFull n) same ended, kept ∙ before, quiet_then old now later quiet still)
+ends_rounds start mid e rounds old now later OutOfMemory same counts quiet before (ended, kept, still) =
+    (rounds, fault_from start mid e rounds OutOfMemory same ended, kept ∙ before, quiet_then old now later quiet still)
+
+-- ---- the last round
+
+-- no channel has more samples than the longest
+pub most_samples : (cs : List sounds.Sound) (c : ℕ) (d : sounds.Sound) → length d.samples ≡ 0 → length (slice_index_or cs c d).samples ≤ longest cs
+most_samples [] c d none = omega (arith, none, ap (λ (s : sounds.Sound). length s.samples) (get_or_past [] c d (omega arith)))
+most_samples (s ∷ ss) zero d none = omega arith
+most_samples (s ∷ ss) (suc c) d none = omega (arith, most_samples ss c d none)
+
+-- nor has the longest more than each has
+pub least_bound : (cs : List sounds.Sound) (most : ℕ) (d : sounds.Sound) → ((c : ℕ) → length (slice_index_or cs c d).samples ≤ most) → longest cs ≤ most
+least_bound [] most d each = omega arith
+least_bound (s ∷ ss) most d each = omega (arith, each 0, least_bound ss most d (λ c. each (suc c)))
+
+pub pulled_out : (start e : EngineState) (rounds : ℕ) → SamePiece start e → IsUnderway rounds 0 e → longest (channels start.code start.rate) ≤ rounds * start.heap.block → IsPulledOut start e
+pulled_out start e rounds same under over = record {
+  same = same;
+  pulls =
+      under.pulls
+      ∙ (λ i. map (pulls_in (same.block i) rounds) (channels (same.code i) (same.rate i)))
+      ∙ same_counts (pulls_in b rounds) (pulls_of b) cs (silence start.rate) (λ c within. all (slice_index_or cs c (silence start.rate)) (within_all c));
+  ended = λ c within. omega (arith, enough c within, ap length (same_channel start e c same));
+  unspent = under.unspent;
+}
+  where
+    cs : List sounds.Sound
+    cs = channels start.code start.rate
+
+    b : ℕ
+    b = start.heap.block
+
+    positive : 0 < b
+    positive = omega (arith, under.laws.positive, same.block)
+
+    within_all : (c : ℕ) → length (channel_at start c) ≤ rounds * b
+    within_all c = omega (arith, over, most_samples cs c (silence start.rate) (no_samples start.rate))
+
+    most_pulls : (len : ℕ) → len ≤ rounds * b → div_ceil len b ≤ rounds
+    most_pulls len le = of (cases_lt rounds (div_ceil len b))
+      where
+        of : (rounds < div_ceil len b) ⊎ (div_ceil len b ≤ rounds) → div_ceil len b ≤ rounds
+        of (inl less) = absurd (omega (arith, le, some_left rounds len b positive less))
+        of (inr past) = past
+
+    all : (s : sounds.Sound) → length s.samples ≤ rounds * b → pulls_in b rounds s ≡ pulls_of b s
+    all s le = omega (arith, most_pulls (length s.samples) le)
+
+    enough : (c : ℕ) → c < length e.channels → length (channel_at start c) ≤ passed_of e c
+    enough c within =
+        let count : length (channels e.code e.rate) ≡ length cs = λ i. length (channels (same.code i) (same.rate i)) in
+        let within_start : c < length cs = omega (arith, within, under.count, count) in
+        let at : slice_index e.pulled c ≡ pulls_of b (slice_index_or cs c (silence start.rate)) =
+        ap (λ xs. slice_index xs c) (under.pulls ∙ (λ i. map (pulls_in (same.block i) rounds) (channels (same.code i) (same.rate i))))
+        ∙ map_at (pulls_in b rounds) cs c (silence start.rate) within_start
+        ∙ all (slice_index_or cs c (silence start.rate)) (within_all c) in
+        let passed : passed_of e c ≡ pulls_of b (slice_index_or cs c (silence start.rate)) * b = λ i. at i * same.block i in
+        omega (arith, none_left (pulls_of b (slice_index_or cs c (silence start.rate))) (length (channel_at start c)) b positive (omega arith), passed)
 
 -- ---- the loop
 
 -- between two rounds
-pub record RoundsSoFar (start e : EngineState) (old now : HostState) (file : ℕ) : Type 0 where
+pub record RoundsSoFar (start e : EngineState) (rounds : ℕ) (old now : HostState) (file : ℕ) : Type 0 where
   pub same : SamePiece start e
-  pub under : IsUnderway e
+  pub under : IsUnderway rounds 0 e
   pub counts : NoneFell old now
   pub quiet : SameCounts old now
   pub output : now.output ≡ Some file
   pub files : now.files ≡ old.files
   pub printed : now.printed ≡ old.printed
-  pub wrote : SoFar start e old now
+  pub wrote : Wrote (bytes_after start rounds) old now
 
 counts_none : (old : HostState) → NoneFell old old
 counts_none old = record { opens = λ name. omega arith; reads = λ name. omega arith; creates = λ name. omega arith; writes = omega arith }
@@ -167,8 +268,11 @@ counts_then old mid new first second = record {
 same_piece : (e : EngineState) → SamePiece e e
 same_piece e = record { code = refl; rate = refl; channels = refl; pool = refl; block = refl }
 
-pub rounds_begin : (e : EngineState) (old : HostState) (file : ℕ) → IsUnderway e → passed_of e 0 ≡ 0 → old.output ≡ Some file → RoundsSoFar e e old old file
-rounds_begin e old file under begins output = record {
+no_blocks : (b : ℕ) → 0 ≡ 0 * b
+no_blocks b = omega arith
+
+pub rounds_begin : (e : EngineState) (old : HostState) (file : ℕ) → IsUnderway 0 0 e → old.output ≡ Some file → RoundsSoFar e e 0 old old file
+rounds_begin e old file under output = record {
   same = same_piece e;
   under = under;
   counts = counts_none old;
@@ -176,16 +280,13 @@ rounds_begin e old file under begins output = record {
   output = output;
   files = refl;
   printed = refl;
-  wrote =
-      sym (written-nothing old.created)
-      ∙ ap (λ bytes. written bytes old.created) (sym frame_of-nil)
-      ∙ ap (λ n. written (frame_of (take n (channel_at e 0))) old.created) (sym begins);
+  wrote = sym (written-nothing old.created) ∙ ap (λ n. written (flat_map frame_of (take n (frames_at e))) old.created) (no_blocks e.heap.block);
 }
 
-pub rounds_on : (start mid e : EngineState) (old now later : HostState) (file : ℕ) → RoundsSoFar start mid old now file → SamePiece mid e → IsUnderway e
-    → passed_of e 0 ≡ passed_of mid 0 + mid.heap.block → Wrote (frame_of (next_block mid 0)) now later → NoneFell now later → SameCounts now later → later.output ≡ now.output
-    → later.files ≡ now.files → later.printed ≡ now.printed → RoundsSoFar start e old later file
-rounds_on start mid e old now later file so same under passed wrote counts quiet output files printed = record {
+pub rounds_on : (start mid e : EngineState) (rounds : ℕ) (old now later : HostState) (file : ℕ) → RoundsSoFar start mid rounds old now file → SamePiece mid e → IsUnderway (rounds + 1) 0 e
+    → Wrote (bytes_of_round mid rounds) now later → NoneFell now later → SameCounts now later → later.output ≡ now.output
+    → later.files ≡ now.files → later.printed ≡ now.printed → RoundsSoFar start e (rounds + 1) old later file
+rounds_on start mid e rounds old now later file so same under wrote counts quiet output files printed = record {
   same = same_then start mid e so.same same;
   under = under;
   counts = counts_then old now later so.counts counts;
@@ -193,16 +294,16 @@ rounds_on start mid e old now later file so same under passed wrote counts quiet
   output = output ∙ so.output;
   files = files ∙ so.files;
   printed = printed ∙ so.printed;
-  wrote = round_wrote start mid e old now later so.same so.wrote wrote passed;
+  wrote = round_wrote start mid rounds old now later so.same so.wrote wrote;
 }
 
--- what is left of a channel that has not ended
-pub some_left : (e : EngineState) → (HasEnded e 0 → ⊥) → passed_of e 0 < length (channel_at e 0)
-some_left e more = lt_of_not-le more
-
-pub fewer_left : (mid e : EngineState) → IsUnderway mid → SamePiece mid e → passed_of mid 0 < length (channel_at mid 0) → passed_of e 0 ≡ passed_of mid 0 + mid.heap.block
-    → length (channel_at e 0) - passed_of e 0 < length (channel_at mid 0) - passed_of mid 0
-fewer_left mid e under same left passed = omega (arith, left, passed, under.laws.positive, ap length (same_channel mid e same))
+-- all frames are written where the longest channel has no more samples than so many rounds give
+pub wrote_all : (start : EngineState) (rounds : ℕ) (old new : HostState) → longest (channels start.code start.rate) ≤ rounds * start.heap.block
+    → Wrote (bytes_after start rounds) old new → Wrote (all_bytes start) old new
+wrote_all start rounds old new over before =
+    before
+    ∙ ap (λ (fs : List (List ℤ)). written (flat_map frame_of fs) old.created)
+    (take_all (rounds * start.heap.block) (frames_at start) (omega (arith, over, frames_count (channels start.code start.rate))))
 
 -- what holds at a fault that is passed on
 pub on_err : {A E : Type 0} (r : Result A E) (P : Type 0) → P → OnErr r P

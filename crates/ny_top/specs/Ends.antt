@@ -7,7 +7,8 @@ use Rattle.ny_io.specs.Host.{Named, HostState, SameOutput, added, bytes_under}
 use Rattle.ny_syntax.specs.declared.tree.Tree.{Tree}
 use Rattle.ny_pull.specs.Engine.{EngineState}
 use Rattle.ny_check.specs.Code.{Code}
-use Rattle.ny_top.specs.Channel.{playable, file_of, first_frames}
+use Rattle.ny_check.specs.Acceptance.{program_in}
+use Rattle.ny_top.specs.Channel.{file_of, first_frames}
 use Rattle.ny_top.specs.Playing.{IsPoolFull, IsShortAfter}
 use Rattle.ny_top.specs.Reading.{IsAccepted}
 use Rattle.ny_top.specs.Words.{Render, Task, Command, render, check}
@@ -87,7 +88,7 @@ abbrev pub MadeTree : Task → Tree → HostState → HostState → Type 0
 MadeTree check tree old new = new.created ≡ old.created
 MadeTree (render r) tree old new =
     (new.created ≡ old.created)
-    ⊎ ((code : Code) × (playable tree ≡ Some code) × MadePart r.to (file_of r.rate code) old new)
+    ⊎ ((code : Code) × (program_in tree ≡ Some code) × MadePart r.to (file_of r.rate code) old new)
 
 -- the same of the tree that a text has, if it is accepted
 abbrev pub MadeText : Task → List ℕ → HostState → HostState → Type 0
@@ -100,18 +101,18 @@ Makes command old new =
     (new.created ≡ old.created)
     ⊎ ((text : List ℕ) × IfSome old.files (λ files. text ≡ bytes_under command.from files) × MadeText command.task text old new)
 
--- Memory was missing for a part of the piece that fell due. The engine that is left has given so many blocks, and the created file
+-- Memory was missing for a part of the piece that fell due. The engine that is left has played so many whole rounds, and the created file
 -- holds the header of the whole file and their frames.
 abbrev pub CutsFile : Render → Code → EngineState → HostState → HostState → Type 0
 CutsFile r code e old new =
-    (count : ℕ) × IsShortAfter r code count e × (new.created ≡ added (r.to, first_frames r.rate code (count * r.block)) old.created)
+    (rounds : ℕ) × IsShortAfter r code rounds e × (new.created ≡ added (r.to, first_frames r.rate code (rounds * r.block)) old.created)
 
 -- memory was missing before an output was created, or for a part of the tree that was played
 abbrev pub CutsTree : Task → Tree → Option EngineState → HostState → HostState → Type 0
 CutsTree check tree left old new = SameOutput old new
 CutsTree (render r) tree left old new =
     SameOutput old new
-    ⊎ ((code : Code) × (playable tree ≡ Some code) × ((e : EngineState) × (left ≡ Some e) × CutsFile r code e old new))
+    ⊎ ((code : Code) × (program_in tree ≡ Some code) × ((e : EngineState) × (left ≡ Some e) × CutsFile r code e old new))
 
 -- the same of the tree that a text has, if it is accepted
 abbrev pub CutsText : Task → List ℕ → Option EngineState → HostState → HostState → Type 0
@@ -129,13 +130,9 @@ abbrev pub RunCutsShort : Option Command → Option EngineState → HostState �
 RunCutsShort None left old new = SameOutput old new
 RunCutsShort (Some command) left old new = CutsShort command left old new
 
--- the tree can be played
-abbrev pub CanBePlayed : Tree → Type 0
-CanBePlayed tree = (code : Code) × (playable tree ≡ Some code)
-
--- the text is accepted, and its tree can be played
+-- the text is accepted
 abbrev pub HasPiece : List ℕ → Type 0
-HasPiece text = (length text ≤ most) × ((tree : Tree) × IsAccepted text tree × CanBePlayed tree)
+HasPiece text = (length text ≤ most) × ((tree : Tree) × IsAccepted text tree)
 
 -- the output could not be created, and its whole line was printed
 abbrev pub CreateCause : Task → HostState → HostState → Type 0
@@ -165,7 +162,7 @@ WriteTold command left old new =
     ⊎ (Rose (old.reads command.from) (new.reads command.from) × FaultTold (read_line command.from) old new)
     ⊎ CreateTold command.task old new
 
--- The input can't be opened; or the output can't be created, which is tried for a text alone that can be played. The count
+-- The input can't be opened; or the output can't be created, which is tried for an accepted text alone. The count
 -- rose, and the whole line was printed.
 abbrev pub OpenCause : Command → HostState → HostState → Type 0
 OpenCause command old new =

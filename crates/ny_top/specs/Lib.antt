@@ -6,3 +6,4 @@ pub mod Rounds
 pub mod Playing
 pub mod Views
 pub mod Words
+pub mod Frames

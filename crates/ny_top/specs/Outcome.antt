@@ -1,5 +1,5 @@
 -- What a run does over a host that never fails.
-use Rattle.std.specs.Prelude.{◌≡◌, ◌≢◌, ℕ, ◌*◌, ◌≤◌, ◌<◌, ◌⊎◌, List, [], ◌∷◌, ◌++◌, length, Some, None, codes}
+use Rattle.std.specs.Prelude.{◌≡◌, ◌≢◌, ℕ, ◌*◌, ◌≤◌, ◌<◌, ◌⊎◌, List, [], ◌∷◌, ◌++◌, length, sum, Some, None, codes}
 use Rattle.std.specs.declared.option.Option.{Option}
 use Rattle.ny_io.specs.Host.{Named, bytes_under}
 use Rattle.ny_syntax.specs.declared.tree.Tree.{Tree}
@@ -8,8 +8,9 @@ use Rattle.ny_top.specs.declared.reading.Refusal.{Refusal}
 use Rattle.ny_top.specs.Reading.{IsAccepted, IsRefusal, refusal_text}
 use Rattle.ny_report.specs.Lines.{full_line_of}
 use Rattle.ny_check.specs.Code.{Code}
+use Rattle.ny_check.specs.Acceptance.{program_in}
 use Rattle.ny_pull.specs.Engine.{EngineState}
-use Rattle.ny_top.specs.Channel.{playable, file_of, first_frames}
+use Rattle.ny_top.specs.Channel.{file_of, first_frames}
 use Rattle.ny_top.specs.Playing.{HasPlayed, IsFullAfter}
 use Rattle.ny_top.specs.Words.{Render, Task, Command, render, check, read_words}
 use Rattle.ny_top.specs.declared.status.Status.{Status}
@@ -40,9 +41,6 @@ usage_line = codes "fault: usage" ++ line_end
 abbrev pub too_long_line : List ℕ
 too_long_line = codes "refused: too long" ++ line_end
 
-abbrev pub form_line : List ℕ
-form_line = codes "refused: form" ++ line_end
-
 abbrev pub write_line : List ℕ
 write_line = codes "fault: write" ++ line_end
 
@@ -69,19 +67,20 @@ refused line = record { status = Refused; file = None; printed = line }
 abbrev pub played : Render → Code → Outcome
 played r code = record { status = Ok; file = Some (r.to, file_of r.rate code); printed = [] }
 
--- the header of the whole file, the frames of so many rounds, and the line of a full pool
-abbrev pub full : Render → Code → ℕ → Outcome
-full r code pulls =
-    record { status = PoolFull; file = Some (r.to, first_frames r.rate code (pulls * r.block)); printed = full_line_of pulls }
+-- the header of the whole file, the frames of so many rounds, and the line of a full pool after so many pulls
+abbrev pub full : Render → Code → ℕ → ℕ → Outcome
+full r code rounds pulls =
+    record { status = PoolFull; file = Some (r.to, first_frames r.rate code (rounds * r.block)); printed = full_line_of pulls }
 
--- the outcome for a program and the engine that is left, which tells whether it was played to the end
+-- the outcome for a program and the engine that is left, which tells whether it was played to the end. Where the pool was full, its line
+-- counts the pulls of all channels, and the frames of the round in which it was full are not written
 abbrev pub HasPlayOutcome : Render → Code → EngineState → Outcome → Type 0
 HasPlayOutcome r code e o =
-    (HasPlayed r code e × (o ≡ played r code)) ⊎ ((pulls : ℕ) × IsFullAfter r code pulls e × (o ≡ full r code pulls))
+    (HasPlayed r code e × (o ≡ played r code)) ⊎ ((rounds : ℕ) × IsFullAfter r code rounds e × (o ≡ full r code rounds (sum e.pulled)))
 
--- the outcome for a program that can be played and the engine that is left; one that can't be played yet is refused
+-- the outcome for a program and the engine that is left
 abbrev pub HasProgramOutcome : Render → Option Code → Option EngineState → Outcome → Type 0
-HasProgramOutcome r None left o = (left ≡ None) × (o ≡ refused form_line)
+HasProgramOutcome r None left o = ⊥
 HasProgramOutcome r (Some code) None o = ⊥
 HasProgramOutcome r (Some code) (Some e) o = HasPlayOutcome r code e o
 
@@ -91,7 +90,7 @@ checked tree = record { status = Ok; file = None; printed = canonical_text tree 
 
 -- the outcome for an accepted tree
 abbrev pub HasTreeOutcome : Task → Tree → Option EngineState → Outcome → Type 0
-HasTreeOutcome (render r) tree left o = HasProgramOutcome r (playable tree) left o
+HasTreeOutcome (render r) tree left o = HasProgramOutcome r (program_in tree) left o
 HasTreeOutcome check tree left o = (left ≡ None) × (o ≡ checked tree)
 
 -- the outcome for a text that is not too long: that of its tree, where it is accepted, or its refusal

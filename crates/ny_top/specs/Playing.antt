@@ -1,11 +1,12 @@
 -- The engine that a run leaves: whether it played a piece to its end, found its pool full, or found memory missing.
-use Rattle.std.specs.Prelude.{◌≡◌, ℕ, ◌<◌, ◌≤◌, true, [], ◌∷◌, map, length, Some, None}
+use Rattle.std.specs.Prelude.{◌≡◌, ℕ, ◌+◌, ◌<◌, ◌≤◌, true, List, ◌++◌, take, drop, map, length, min, sum, slice_index_or, Some, None}
 use Rattle.std.specs.Int.{div_ceil}
 use Rattle.ny_num.specs.Grid.{last_index}
 use Rattle.ny_heap.specs.Heap.{live_of}
 use Rattle.ny_heap.specs.Reach.{HeapLaws}
 use Rattle.ny_heap.specs.Revealing.{has_waiting}
 use Rattle.ny_num.specs.Sound as sounds
+use Rattle.ny_num.specs.Sound.{silence}
 use Rattle.ny_check.specs.Code.{Code}
 use Rattle.ny_check.specs.Channels.{channels}
 use Rattle.ny_pull.specs.declared.fault.PullFault.TheVariants.{PoolFull, OutOfMemory}
@@ -22,6 +23,19 @@ pub record IsAsked (r : Render) (e : EngineState) : Type 0 where
 abbrev pub pulls_of : ℕ → sounds.Sound → ℕ
 pulls_of block channel = div_ceil (length channel.samples) block
 
+-- how many pulls of a channel give samples in so many rounds: one in each, until it has ended
+abbrev pub pulls_in : ℕ → ℕ → sounds.Sound → ℕ
+pulls_in block rounds channel = min rounds (pulls_of block channel)
+
+-- how many pulls of each channel gave samples: so many rounds are whole, and in the next one the channels before c were pulled
+abbrev pub pulled_after : ℕ → ℕ → ℕ → List sounds.Sound → List ℕ
+pulled_after block rounds c channels = map (pulls_in block (rounds + 1)) (take c channels) ++ map (pulls_in block rounds) (drop c channels)
+
+-- the engine made so many whole rounds, and pulled the channels before c once more; channel c takes a further pull
+pub record IsInRound (rounds c : ℕ) (e : EngineState) : Type 0 where
+  pub pulls : e.pulled ≡ pulled_after e.heap.block rounds c (channels e.code e.rate)
+  pub more : rounds < pulls_of e.heap.block (slice_index_or (channels e.code e.rate) c (silence e.rate))
+
 -- the engine has given all samples of this program, by a pull for each block of each channel
 pub record HasPlayed (r : Render) (code : Code) (e : EngineState) : Type 0 where
   pub asked : IsAsked r e
@@ -30,16 +44,17 @@ pub record HasPlayed (r : Render) (code : Code) (e : EngineState) : Type 0 where
   pub ended : (c : ℕ) → c < length e.channels → HasEnded e c
   pub unspent : e.spent ≡ None
 
--- the engine has given so many blocks of this program, and its pool was full at the pull after them
-pub record IsFullAfter (r : Render) (code : Code) (count : ℕ) (e : EngineState) : Type 0 where
+-- the engine has played so many whole rounds of this program, and its pool was full at a pull of the round after them
+pub record IsFullAfter (r : Render) (code : Code) (rounds : ℕ) (e : EngineState) : Type 0 where
   pub asked : IsAsked r e
   pub piece : e.code ≡ code
-  pub pulls : e.pulled ≡ count ∷ []
-  pub spent : e.spent ≡ Some (PoolFull count r.pool)
+  pub at : ℕ
+  pub pulls : IsInRound rounds at e
+  pub spent : e.spent ≡ Some (PoolFull (sum e.pulled) r.pool)
 
--- All blocks of the pool are taken, each by somebody who has still to read it. The pull that found them so began when the
+-- All blocks of the pool are taken, each by somebody who has still to read it. The pull of channel c that found them so began when the
 -- engine had made these pulls and was not spent, and a fill that its next block needed found no free block.
-pub record IsStopped (e : EngineState) : Type 0 where
+pub record IsStopped (c : ℕ) (e : EngineState) : Type 0 where
   pub laws : HeapLaws e.heap
   pub taken : live_of e.heap ≡ e.heap.pool
   pub before : EngineState
@@ -47,11 +62,11 @@ pub record IsStopped (e : EngineState) : Type 0 where
   pub pulls : before.pulled ≡ e.pulled
   pub unspent : before.spent ≡ None
   pub earlier : HeapLaws before.heap
-  pub stops : StopsAtFull before e 0
+  pub stops : StopsAtFull before e c
 
--- Memory was missing for a part that fell due. The pull that found it so began when the engine had made these pulls and was not spent,
--- and some part waited.
-pub record IsShort (e : EngineState) : Type 0 where
+-- Memory was missing for a part that fell due. The pull of channel c that found it so began when the engine had made these pulls and was
+-- not spent, and some part waited.
+pub record IsShort (c : ℕ) (e : EngineState) : Type 0 where
   pub spent : e.spent ≡ Some OutOfMemory
   pub before : EngineState
   pub same : SamePiece before e
@@ -59,25 +74,27 @@ pub record IsShort (e : EngineState) : Type 0 where
   pub unspent : before.spent ≡ None
   pub earlier : HeapLaws before.heap
   pub waits : has_waiting before.heap ≡ true
-  pub lacks : LacksMemory before 0
+  pub lacks : LacksMemory before c
 
--- the engine has given so many blocks of this program, and memory was missing at the pull after them
-pub record IsShortAfter (r : Render) (code : Code) (count : ℕ) (e : EngineState) : Type 0 where
+-- the engine has played so many whole rounds of this program, and memory was missing at a pull of the round after them
+pub record IsShortAfter (r : Render) (code : Code) (rounds : ℕ) (e : EngineState) : Type 0 where
   pub asked : IsAsked r e
   pub piece : e.code ≡ code
-  pub pulls : e.pulled ≡ count ∷ []
-  pub short : IsShort e
+  pub at : ℕ
+  pub pulls : IsInRound rounds at e
+  pub short : IsShort at e
 
--- the pool that was asked for is full
+-- the pool that was asked for is full, at a pull of some round
 abbrev pub IsPoolFull : Render → EngineState → Type 0
-IsPoolFull r e = IsAsked r e × IsStopped e
+IsPoolFull r e = IsAsked r e × ((rounds : ℕ) × (c : ℕ) × IsInRound rounds c e × IsStopped c e)
 
 -- the engine was just opened
 pub record IsNew (r : Render) (e : EngineState) : Type 0 where
   pub asked : IsAsked r e
-  pub channel : length e.channels ≡ 1
-  pub one : length (channels e.code e.rate) ≡ 1
-  pub pulls : e.pulled ≡ 0 ∷ []
+  pub count : length e.channels ≡ length (channels e.code e.rate)
+  pub some : 1 ≤ length e.channels
+  pub most : length e.channels ≤ 8
+  pub pulls : e.pulled ≡ map (λ s. 0) (channels e.code e.rate)
   pub unspent : e.spent ≡ None
   pub laws : HeapLaws e.heap
-  pub hour : length (channel_at e 0) ≤ last_index r.rate
+  pub hour : (c : ℕ) → length (channel_at e c) ≤ last_index r.rate

@@ -1,24 +1,24 @@
--- Rounds over an engine: each pulls the next block of its channel and writes the block's frames.
-use Rattle.std.specs.Prelude.{◌≡◌, ℕ, ◌+◌, ◌*◌, ◌<◌, ◌≤◌, List, [], ◌∷◌, take, length, Some, None}
-use Rattle.std.specs.Int.{div_ceil}
+-- Rounds over an engine: each pulls the next block of each channel that has not ended, channel 0 first, and writes their frames.
+use Rattle.std.specs.Prelude.{◌≡◌, ℕ, ◌*◌, ◌<◌, ◌≤◌, List, take, drop, map, length, sum, Some, None, ℤ}
+use Rattle.std.specs.List.{flat_map}
 use Rattle.ny_io.specs.Faults.{Rose}
 use Rattle.ny_io.specs.Host.{HostState, SameCounts, written}
 use Rattle.ny_heap.specs.Reach.{HeapLaws}
-use Rattle.ny_pull.specs.Engine.{EngineState, channel_at, passed_of, HasEnded, SamePiece}
+use Rattle.ny_check.specs.Channels.{channels, frames}
+use Rattle.ny_pull.specs.Engine.{EngineState, HasEnded, SamePiece}
 use Rattle.ny_pull.specs.declared.fault.PullFault.TheVariants as faults
 use Rattle.ny_wav.specs.WavFile.{frame_of}
 use Rattle.ny_top.specs.Channel.{first_frames}
-use Rattle.ny_top.specs.Playing.{IsStopped, IsShort}
+use Rattle.ny_top.specs.Playing.{pulls_of, pulled_after, IsInRound, IsStopped, IsShort}
 use Rattle.ny_top.specs.declared.rounds.RoundFault.{RoundFault}
 use Rattle.ny_top.specs.declared.rounds.RoundFault.TheVariants.{Write, PoolFull, OutOfMemory}
 
--- an engine between two rounds: each pull so far gave samples
-pub record IsUnderway (e : EngineState) : Type 0 where
-  pub channel : length e.channels ≡ 1
-  pub one : length e.pulled ≡ 1
+-- an engine between two pulls: so many rounds are whole, and in the next one the channels before c were pulled
+pub record IsUnderway (rounds c : ℕ) (e : EngineState) : Type 0 where
+  pub count : length e.channels ≡ length (channels e.code e.rate)
+  pub pulls : e.pulled ≡ pulled_after e.heap.block rounds c (channels e.code e.rate)
   pub unspent : e.spent ≡ None
   pub laws : HeapLaws e.heap
-  pub gave : passed_of e 0 < length (channel_at e 0) + e.heap.block
 
 -- these bytes were written to the output, and nothing else
 abbrev pub Wrote : List ℕ → HostState → HostState → Type 0
@@ -28,47 +28,73 @@ Wrote bytes old new = new.created ≡ written bytes old.created
 abbrev pub WrotePart : List ℕ → HostState → HostState → Type 0
 WrotePart bytes old new = (done : ℕ) × (done ≤ length bytes) × Wrote (take done bytes) old new
 
--- the engine was pulled to its end
+-- the frames that an engine's channels have together
+abbrev pub frames_at : EngineState → List (List ℤ)
+frames_at e = frames (channels e.code e.rate)
+
+-- the bytes of all of them
+abbrev pub all_bytes : EngineState → List ℕ
+all_bytes e = flat_map frame_of (frames_at e)
+
+-- the bytes of the frames of so many rounds
+abbrev pub bytes_after : EngineState → ℕ → List ℕ
+bytes_after e rounds = flat_map frame_of (take (rounds * e.heap.block) (frames_at e))
+
+-- the bytes of the frames of the round after so many: a block of them, or what is left
+abbrev pub bytes_of_round : EngineState → ℕ → List ℕ
+bytes_of_round e rounds = flat_map frame_of (take e.heap.block (drop (rounds * e.heap.block) (frames_at e)))
+
+-- each channel of the engine was pulled to its end
 pub record IsPulledOut (start e : EngineState) : Type 0 where
   pub same : SamePiece start e
-  pub pulls : e.pulled ≡ div_ceil (length (channel_at start 0)) start.heap.block ∷ []
-  pub ended : HasEnded e 0
+  pub pulls : e.pulled ≡ map (pulls_of start.heap.block) (channels start.code start.rate)
+  pub ended : (c : ℕ) → c < length e.channels → HasEnded e c
   pub unspent : e.spent ≡ None
 
--- the engine's pool was full after so many pulls
-pub record IsSpentAfter (start e : EngineState) (count : ℕ) : Type 0 where
+-- the engine's pool was full at a pull of the round after so many
+pub record IsSpentAfter (start e : EngineState) (rounds : ℕ) : Type 0 where
   pub same : SamePiece start e
-  pub pulls : e.pulled ≡ count ∷ []
-  pub spent : e.spent ≡ Some (faults.PoolFull count start.heap.pool)
-  pub stopped : IsStopped e
+  pub at : ℕ
+  pub pulls : IsInRound rounds at e
+  pub spent : e.spent ≡ Some (faults.PoolFull (sum e.pulled) start.heap.pool)
+  pub stopped : IsStopped at e
 
--- memory was missing after so many pulls
-pub record IsShortOf (start e : EngineState) (count : ℕ) : Type 0 where
+-- memory was missing at a pull of the round after so many
+pub record IsShortOf (start e : EngineState) (rounds : ℕ) : Type 0 where
   pub same : SamePiece start e
-  pub pulls : e.pulled ≡ count ∷ []
-  pub short : IsShort e
+  pub at : ℕ
+  pub pulls : IsInRound rounds at e
+  pub short : IsShort at e
 
--- why a round ended early. At a full pool, and where memory was missing, nothing of it was written, and no count changed
-abbrev pub IsRoundFault : EngineState → EngineState → HostState → HostState → RoundFault → Type 0
-IsRoundFault start e old new Write = Rose old.writes new.writes
-IsRoundFault start e old new (PoolFull count) = (start.pulled ≡ count ∷ []) × IsSpentAfter start e count × (new.created ≡ old.created) × SameCounts old new
-IsRoundFault start e old new OutOfMemory =
-    (count : ℕ) × (start.pulled ≡ count ∷ []) × IsShortOf start e count × (new.created ≡ old.created) × SameCounts old new
+-- why a pull of the round after so many gave no samples
+abbrev pub IsPullFault : EngineState → EngineState → ℕ → RoundFault → Type 0
+IsPullFault start e rounds Write = ⊥
+IsPullFault start e rounds (PoolFull pulls) = (pulls ≡ sum e.pulled) × IsSpentAfter start e rounds
+IsPullFault start e rounds OutOfMemory = IsShortOf start e rounds
+
+-- why the round after so many ended early. At a full pool, and where memory was missing, nothing of it was written, and no count changed
+abbrev pub IsRoundFault : EngineState → EngineState → ℕ → HostState → HostState → RoundFault → Type 0
+IsRoundFault start e rounds old new Write = Rose old.writes new.writes
+IsRoundFault start e rounds old new (PoolFull pulls) =
+    IsPullFault start e rounds (PoolFull pulls) × (new.created ≡ old.created) × SameCounts old new
+IsRoundFault start e rounds old new OutOfMemory = IsPullFault start e rounds OutOfMemory × (new.created ≡ old.created) × SameCounts old new
 
 -- why the rounds ended early. At a full pool, and where memory was missing, the frames of all rounds before were written, and no count
 -- changed
 abbrev pub EndsRounds : EngineState → EngineState → HostState → HostState → RoundFault → Type 0
 EndsRounds start e old new Write = Rose old.writes new.writes
-EndsRounds start e old new (PoolFull count) =
-    IsSpentAfter start e count × Wrote (frame_of (take (count * start.heap.block) (channel_at start 0))) old new × SameCounts old new
+EndsRounds start e old new (PoolFull pulls) =
+    (rounds : ℕ) × IsPullFault start e rounds (PoolFull pulls) × Wrote (bytes_after start rounds) old new × SameCounts old new
 EndsRounds start e old new OutOfMemory =
-    (count : ℕ) × IsShortOf start e count × Wrote (frame_of (take (count * start.heap.block) (channel_at start 0))) old new × SameCounts old new
+    (rounds : ℕ) × IsPullFault start e rounds OutOfMemory × Wrote (bytes_after start rounds) old new × SameCounts old new
 
 -- why the file's parts ended early. At a full pool, and where memory was missing, its header and the frames of all rounds before were
 -- written, and no count changed
 abbrev pub EndsFile : EngineState → EngineState → HostState → HostState → RoundFault → Type 0
 EndsFile start e old new Write = Rose old.writes new.writes
-EndsFile start e old new (PoolFull count) =
-    IsSpentAfter start e count × Wrote (first_frames start.rate start.code (count * start.heap.block)) old new × SameCounts old new
+EndsFile start e old new (PoolFull pulls) =
+    (rounds : ℕ) × IsPullFault start e rounds (PoolFull pulls)
+    × Wrote (first_frames start.rate start.code (rounds * start.heap.block)) old new × SameCounts old new
 EndsFile start e old new OutOfMemory =
-    (count : ℕ) × IsShortOf start e count × Wrote (first_frames start.rate start.code (count * start.heap.block)) old new × SameCounts old new
+    (rounds : ℕ) × IsPullFault start e rounds OutOfMemory
+    × Wrote (first_frames start.rate start.code (rounds * start.heap.block)) old new × SameCounts old new

@@ -1,8 +1,9 @@
-ghost use Rattle.std.specs.Prelude.{◌≡◌, ◌≢◌, ◌*◌, ◌⊎◌, [], Some, length, IfErr, OnOk, OnErr, IsTrue};
+ghost use Rattle.std.specs.Prelude.{◌≡◌, ◌≢◌, ◌≤◌, ◌⊎◌, [], Some, length, IfErr, OnOk, OnErr, IsTrue};
 ghost use Rattle.std.specs.Io.KnownBytes.{append_known};
 ghost use Rattle.ny_io.specs.Faults.{Rose};
 ghost use Rattle.ny_io.specs.Host.{NoneFell, SameCounts, SameOutput};
 ghost use Rattle.ny_top.specs.Channel.{file_of};
+ghost use Rattle.ny_top.specs.Frames.{HasRoom};
 ghost use Rattle.ny_top.specs.Outcome.{create_line, HasPlayOutcome};
 ghost use Rattle.ny_top.specs.Playing.{IsNew, IsPoolFull};
 ghost use Rattle.ny_top.specs.Rounds.{IsPulledOut, EndsFile, Wrote, WrotePart};
@@ -10,7 +11,8 @@ ghost use Rattle.ny_top.specs.Ends.{FaultTold, ToldAs, EndsAs, MadePart, CutsFil
 ghost use Rattle.ny_top.specs.Views.{render_view};
 
 use crate::ends::{OutputLines, end_at, end_full, tell_fault};
-use crate::rounds::{Buffers, RoundFault, rounds};
+use crate::frames::Buffers;
+use crate::rounds::{RoundFault, rounds};
 use crate::status::Status;
 use crate::words::Render;
 use ny_io::{Host, write_all};
@@ -29,8 +31,8 @@ fn write_parts<H: Host>(
 ) -> Result<(), RoundFault>
     requires open { (H.state host.old).output ≡ Some file }
     requires new { IsNew (render_view render) engine.old }
-    requires samples { length buffers.old.samples.items ≡ render.block }
-    requires bytes { length buffers.old.bytes.items ≡ 2 * render.block }
+    requires block { (16 ≤ render.block) × (render.block ≤ 4096) }
+    requires room { HasRoom (length engine.old.channels) render.block buffers.old }
     ensures counts { NoneFell (H.state host.old) (H.state host.new) }
     ensures quiet { OnOk result (SameCounts (H.state host.old) (H.state host.new)) }
     ensures played { OnOk result (IsPulledOut engine.old engine.new) }
@@ -40,16 +42,9 @@ fn write_parts<H: Host>(
     ensures files { (H.state host.new).files ≡ (H.state host.old).files }
     ensures printed { (H.state host.new).printed ≡ (H.state host.old).printed }
 {
-    let head = header(1, render.rate, 16, engine.frames());
+    let head = header(engine.channels(), render.rate, 16, engine.frames());
     match write_all(host, file, &head) {
-        Ok(()) => rounds(
-            alloc,
-            host,
-            file,
-            engine,
-            buffers.samples.as_mut_slice(),
-            buffers.bytes.as_mut_slice(),
-        ),
+        Ok(()) => rounds(alloc, host, file, engine, buffers),
         Err(_) => Err(RoundFault::Write),
     }
 }
@@ -65,8 +60,8 @@ pub(crate) fn write_file<H: Host>(
     lines: OutputLines,
 ) -> Status
     requires new { IsNew (render_view render) engine.old }
-    requires samples { length buffers.old.samples.items ≡ render.block }
-    requires bytes { length buffers.old.bytes.items ≡ 2 * render.block }
+    requires block { (16 ≤ render.block) × (render.block ≤ 4096) }
+    requires room { HasRoom (length engine.old.channels) render.block buffers.old }
     requires line { lines.create.items ≡ create_line render.output.now }
     ensures counts { NoneFell (H.state host.old) (H.state host.new) }
     ensures files { (H.state host.new).files ≡ (H.state host.old).files }

@@ -4,6 +4,7 @@
 mod ends;
 mod entry;
 mod file;
+mod frames;
 mod names;
 mod play;
 mod reading;

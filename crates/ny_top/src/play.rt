@@ -4,12 +4,11 @@ ghost use Rattle.ny_io.specs.Faults.{Rose};
 ghost use Rattle.ny_io.specs.Host.{NoneFell, SameCounts, SameOutput};
 ghost use Rattle.ny_check.specs.Acceptance.{program_in};
 ghost use Rattle.ny_top.specs.Outcome.{HasTreeOutcome};
-ghost use Rattle.ny_top.specs.Ends.{FaultTold, ToldAs, EndsAs, CanBePlayed, MadeTree, CutsTree, CreateCause, CreateTold, TaskPoolFull, is_whole, is_unfailed, is_early};
+ghost use Rattle.ny_top.specs.Ends.{FaultTold, ToldAs, EndsAs, MadeTree, CutsTree, CreateCause, CreateTold, TaskPoolFull, is_whole, is_unfailed, is_early};
 ghost use Rattle.ny_top.specs.Views.{task_view};
 ghost use Rattle.ny_top.specs.Words.{IsInRange};
 ghost use Rattle.ny_top.specs.declared.words.Task.TheVariants.{Render as Plays};
 
-use crate::ends::finish;
 use crate::file::write_file;
 use crate::reading::Accepted;
 use crate::song::{Song, open_song};
@@ -33,11 +32,10 @@ pub(crate) fn play<H: Host>(
     requires left { left.old ≡ None }
     ensures counts { NoneFell (H.state host.old) (H.state host.new) }
     ensures files { (H.state host.new).files ≡ (H.state host.old).files }
-    ensures status { (result ≢ Status.Usage) × (result ≢ Status.ReadFault) }
+    ensures status { (result ≢ Status.Usage) × (result ≢ Status.ReadFault) × (result ≢ Status.Refused) }
     ensures unfailed { IsTrue (is_unfailed result) → SameCounts (H.state host.old) (H.state host.new) }
     ensures whole { IsTrue (is_whole result) → EndsAs (HasTreeOutcome (task_view (Plays render.entry)) accepted.tree left.new) result (H.state host.old) (H.state host.new) }
     ensures pool_full { result ≡ Status.PoolFull → TaskPoolFull (task_view (Plays render.entry)) left.new }
-    ensures piece { result ≡ Status.OpenFault → CanBePlayed accepted.tree }
     ensures create { result ≡ Status.OpenFault → CreateCause (task_view (Plays render.entry)) (H.state host.old) (H.state host.new) }
     ensures write { result ≡ Status.WriteFault → Rose (H.state host.old).writes (H.state host.new).writes }
     ensures told { result ≡ Status.WriteFault → FaultTold [] (H.state host.old) (H.state host.new)
@@ -49,7 +47,7 @@ pub(crate) fn play<H: Host>(
     ensures part { MadeTree (task_view (Plays render.entry)) accepted.tree (H.state host.old) (H.state host.new) }
 {
     match open_song(alloc, render, accepted.program) {
-        Ok(Some(song)) => {
+        Ok(song) => {
             let Song {
                 mut engine,
                 mut buffers,
@@ -59,7 +57,6 @@ pub(crate) fn play<H: Host>(
             *left = Some(engine);
             status
         }
-        Ok(None) => finish(host, Status::Refused, b"refused: form\n"),
         Err(_) => Status::OutOfMemory,
     }
 }

@@ -1,17 +1,18 @@
-ghost use Rattle.std.specs.Prelude.{◌≡◌, ◌*◌, ◌+◌, ◌<◌, ◌≤◌, Some, length, IfOk, IfErr, OnOk, OnErr};
-ghost use Rattle.ny_io.specs.Faults.{Rose};
+ghost use Rattle.std.specs.Prelude.{◌≡◌, ◌*◌, ◌+◌, ◌<◌, ◌≤◌, ℕ, Some, length, map, pos, IfErr, OnOk, OnErr};
+ghost use Rattle.std.specs.List.{range_with_len};
 ghost use Rattle.ny_io.specs.Host.{NoneFell, SameCounts};
-ghost use Rattle.ny_pull.specs.Engine.{channel_at, passed_of, next_block, SamePiece};
-ghost use Rattle.ny_wav.specs.WavFile.{frame_of};
-ghost use Rattle.ny_top.specs.Rounds.{IsUnderway, IsPulledOut, IsRoundFault, EndsRounds, Wrote, WrotePart};
+ghost use Rattle.ny_check.specs.Channels.{channels, longest};
+ghost use Rattle.ny_pull.specs.Engine.{SamePiece};
+ghost use Rattle.ny_top.specs.Frames.{HasRoom, IsBlock, AreBlocks};
+ghost use Rattle.ny_top.specs.Rounds.{IsUnderway, IsPulledOut, IsPullFault, IsRoundFault, EndsRounds, Wrote, WrotePart, all_bytes, bytes_of_round};
 
-use ny_io::{Failed, Host, write_all};
+use crate::frames::{Buffers, write_frames};
+use ny_io::Host;
 use ny_num::Sample;
 use ny_pull::{Engine, PullFault};
-use ny_wav::frame_bytes;
-use std::alloc::{AllocError, Global};
+use std::alloc::Global;
 
-/// Why rounds over an engine ended before its channel did.
+/// Why rounds over an engine ended before its channels did.
 #[derive(Clone, Copy)]
 pub(crate) enum RoundFault {
     Write,
@@ -21,113 +22,123 @@ pub(crate) enum RoundFault {
     OutOfMemory,
 }
 
-/// Where rounds are made: the samples of a block, and the bytes of their frames.
-#[derive(Drop)]
-pub(crate) struct Buffers {
-    pub(crate) samples: Vec<Sample>,
-    pub(crate) bytes: Vec<u8>,
-}
-
-/// Buffers for blocks of so many samples.
-pub(crate) fn make_buffers(alloc: Global, block: u32) -> Result<Buffers, AllocError>
-    ensures samples { IfOk result (λ b. length b.samples.items ≡ block) }
-    ensures bytes { IfOk result (λ b. length b.bytes.items ≡ 2 * block) }
+/// Silence.
+fn silence(out: &mut [Sample])
+    ensures { out.new ≡ map (λ n. pos 0) (range_with_len 0 (length out.old)) }
 {
-    let samples = vec![in alloc; Sample::ZERO; block as usize]?;
-    let bytes = vec![in alloc; 0; 2 * block as usize]?;
-    Ok(Buffers { samples, bytes })
+    for n in 0..out.len() {
+        out[n] = Sample::ZERO;
+    }
 }
 
-/// Writes samples as frames of one channel, by one call. Their bytes are made at the front of
-/// `bytes`.
-fn write_frames<H: Host>(
-    host: &mut H,
-    file: u32,
-    samples: &[Sample],
-    bytes: &mut [u8],
-) -> Result<(), Failed>
-    requires open { (H.state host.old).output ≡ Some file }
-    requires room { 2 * length samples.now ≤ length bytes.old }
-    ensures counts { NoneFell (H.state host.old) (H.state host.new) }
-    ensures quiet { OnOk result (SameCounts (H.state host.old) (H.state host.new)) }
-    ensures cause { OnErr result (Rose (H.state host.old).writes (H.state host.new).writes) }
-    ensures whole { OnOk result (Wrote (frame_of samples.now) (H.state host.old) (H.state host.new)) }
-    ensures part { OnErr result (WrotePart (frame_of samples.now) (H.state host.old) (H.state host.new)) }
-    ensures output { (H.state host.new).output ≡ (H.state host.old).output }
-    ensures files { (H.state host.new).files ≡ (H.state host.old).files }
-    ensures printed { (H.state host.new).printed ≡ (H.state host.old).printed }
-    ensures size { length bytes.new ≡ length bytes.old }
+/// The next block of a channel in its turn of a round: its next samples, and then silence. Nothing is pulled of
+/// a channel that has ended.
+fn pull_channel(
+    alloc: Global,
+    engine: &mut Engine,
+    c: u32,
+    out: &mut [Sample],
+) -> Result<(), RoundFault>
+    requires channel { c < length engine.old.channels }
+    requires room { length out.old ≡ engine.old.heap.block }
+    ensures same { SamePiece engine.old engine.new }
+    ensures underway { (rounds : ℕ) → IsUnderway rounds c engine.old → OnOk result (IsUnderway rounds (c + 1) engine.new) }
+    ensures samples { (rounds : ℕ) → IsUnderway rounds c engine.old → OnOk result (IsBlock engine.old rounds c out.new) }
+    ensures fault { (rounds : ℕ) → IsUnderway rounds c engine.old → IfErr result (λ fault. IsPullFault engine.old engine.new rounds fault) }
+    ensures size { length out.new ≡ length out.old }
 {
-    let frames = &mut bytes[..2 * samples.len()];
-    frame_bytes(samples, frames);
-    write_all(host, file, frames)
+    match engine.pull(alloc, c, out) {
+        Ok(count) => {
+            silence(&mut out[count..]);
+            Ok(())
+        }
+        Err(PullFault::PoolFull { pulls, .. }) => Err(RoundFault::PoolFull { pulls }),
+        Err(PullFault::OutOfMemory) => Err(RoundFault::OutOfMemory),
+    }
 }
 
-/// One round: the next block of the channel is pulled, and its frames are written by one call.
+/// The pulls of a round: each channel that has not ended is pulled once, channel 0 first.
+fn pull_channels(
+    alloc: Global,
+    engine: &mut Engine,
+    block: usize,
+    samples: &mut [Sample],
+) -> Result<(), RoundFault>
+    requires block { block ≡ engine.old.heap.block }
+    requires room { length samples.old ≡ length engine.old.channels * block }
+    ensures same { SamePiece engine.old engine.new }
+    ensures underway { (rounds : ℕ) → IsUnderway rounds 0 engine.old → OnOk result (IsUnderway (rounds + 1) 0 engine.new) }
+    ensures samples { (rounds : ℕ) → IsUnderway rounds 0 engine.old → OnOk result (AreBlocks engine.old rounds samples.new) }
+    ensures fault { (rounds : ℕ) → IsUnderway rounds 0 engine.old → IfErr result (λ fault. IsPullFault engine.old engine.new rounds fault) }
+    ensures size { length samples.new ≡ length samples.old }
+{
+    for c in 0..engine.channels() {
+        let from = c as usize * block;
+        pull_channel(alloc, engine, c, &mut samples[from..from + block])?;
+    }
+    Ok(())
+}
+
+/// One round: each channel that has not ended is pulled once, and the frames are written by one call, as many
+/// as the longest of these blocks has.
 fn round<H: Host>(
     alloc: Global,
     host: &mut H,
     file: u32,
     engine: &mut Engine,
-    samples: &mut [Sample],
-    bytes: &mut [u8],
+    buffers: &mut Buffers,
+    round: u32,
 ) -> Result<(), RoundFault>
     requires open { (H.state host.old).output ≡ Some file }
-    requires underway { IsUnderway engine.old }
-    requires left { passed_of engine.old 0 < length (channel_at engine.old 0) }
-    requires samples { length samples.old ≡ engine.old.heap.block }
-    requires bytes { length bytes.old ≡ 2 * engine.old.heap.block }
+    requires underway { IsUnderway round 0 engine.old }
+    requires left { round * engine.old.heap.block < longest (channels engine.old.code engine.old.rate) }
+    requires room { HasRoom (length engine.old.channels) engine.old.heap.block buffers.old }
     ensures counts { NoneFell (H.state host.old) (H.state host.new) }
     ensures quiet { OnOk result (SameCounts (H.state host.old) (H.state host.new)) }
     ensures same { SamePiece engine.old engine.new }
-    ensures underway { OnOk result (IsUnderway engine.new) }
-    ensures passed { OnOk result (passed_of engine.new 0 ≡ passed_of engine.old 0 + engine.old.heap.block) }
-    ensures whole { OnOk result (Wrote (frame_of (next_block engine.old 0)) (H.state host.old) (H.state host.new)) }
-    ensures fault { IfErr result (λ fault. IsRoundFault engine.old engine.new (H.state host.old) (H.state host.new) fault) }
-    ensures part { OnErr result (WrotePart (frame_of (next_block engine.old 0)) (H.state host.old) (H.state host.new)) }
+    ensures underway { OnOk result (IsUnderway (round + 1) 0 engine.new) }
+    ensures whole { OnOk result (Wrote (bytes_of_round engine.old round) (H.state host.old) (H.state host.new)) }
+    ensures fault { IfErr result (λ fault. IsRoundFault engine.old engine.new round (H.state host.old) (H.state host.new) fault) }
+    ensures part { OnErr result (WrotePart (bytes_of_round engine.old round) (H.state host.old) (H.state host.new)) }
     ensures output { (H.state host.new).output ≡ (H.state host.old).output }
     ensures files { (H.state host.new).files ≡ (H.state host.old).files }
     ensures printed { (H.state host.new).printed ≡ (H.state host.old).printed }
-    ensures samples { length samples.new ≡ length samples.old }
-    ensures bytes { length bytes.new ≡ length bytes.old }
+    ensures room { OnOk result (HasRoom (length engine.old.channels) engine.old.heap.block buffers.new) }
 {
-    let count = match engine.pull(alloc, 0, samples) {
-        Ok(count) => count,
-        Err(PullFault::PoolFull { pulls, .. }) => return Err(RoundFault::PoolFull { pulls }),
-        Err(PullFault::OutOfMemory) => return Err(RoundFault::OutOfMemory),
-    };
-    match write_frames(host, file, &samples[..count], bytes) {
+    let block = buffers.block;
+    let count = (engine.frames() as usize - round as usize * block).min(block);
+    pull_channels(alloc, engine, block, buffers.samples.as_mut_slice())?;
+    match write_frames(host, file, engine.channels() as usize, count, buffers) {
         Ok(()) => Ok(()),
         Err(_) => Err(RoundFault::Write),
     }
 }
 
-/// Pulls an engine's channel to its end, and writes the frames of each block as they come. Memory is
-/// taken for the parts that fall due, and for nothing else.
+/// Pulls an engine's channels to their ends, in rounds, and writes the frames of each round as they come. Memory
+/// is taken for the parts that fall due, and for nothing else.
 pub(crate) fn rounds<H: Host>(
     alloc: Global,
     host: &mut H,
     file: u32,
     engine: &mut Engine,
-    samples: &mut [Sample],
-    bytes: &mut [u8],
+    buffers: &mut Buffers,
 ) -> Result<(), RoundFault>
     requires open { (H.state host.old).output ≡ Some file }
-    requires underway { IsUnderway engine.old }
-    requires begins { passed_of engine.old 0 ≡ 0 }
-    requires samples { length samples.old ≡ engine.old.heap.block }
-    requires bytes { length bytes.old ≡ 2 * engine.old.heap.block }
+    requires underway { IsUnderway 0 0 engine.old }
+    requires block { (16 ≤ engine.old.heap.block) × (engine.old.heap.block ≤ 4096) }
+    requires room { HasRoom (length engine.old.channels) engine.old.heap.block buffers.old }
     ensures counts { NoneFell (H.state host.old) (H.state host.new) }
     ensures quiet { OnOk result (SameCounts (H.state host.old) (H.state host.new)) }
     ensures played { OnOk result (IsPulledOut engine.old engine.new) }
-    ensures whole { OnOk result (Wrote (frame_of (channel_at engine.old 0)) (H.state host.old) (H.state host.new)) }
+    ensures whole { OnOk result (Wrote (all_bytes engine.old) (H.state host.old) (H.state host.new)) }
     ensures fault { IfErr result (λ fault. EndsRounds engine.old engine.new (H.state host.old) (H.state host.new) fault) }
-    ensures part { OnErr result (WrotePart (frame_of (channel_at engine.old 0)) (H.state host.old) (H.state host.new)) }
+    ensures part { OnErr result (WrotePart (all_bytes engine.old) (H.state host.old) (H.state host.new)) }
     ensures files { (H.state host.new).files ≡ (H.state host.old).files }
     ensures printed { (H.state host.new).printed ≡ (H.state host.old).printed }
 {
-    while !engine.ended(0) {
-        round(alloc, host, file, engine, samples, bytes)?;
+    let count = engine.frames().div_ceil(buffers.block as u32);
+    for n in 0..count {
+        round(alloc, host, file, engine, buffers, n)?;
     }
     Ok(())
 }

@@ -7,7 +7,7 @@ ghost use Rattle.ny_syntax.specs.Canonical.{canonical_height, canonical_text};
 ghost use Rattle.ny_check.specs.Acceptance.{program_in};
 ghost use Rattle.ny_top.specs.Reading.{refusal_text};
 ghost use Rattle.ny_top.specs.Outcome.{HasReadOutcome, HasTreeOutcome, refused};
-ghost use Rattle.ny_top.specs.Ends.{FaultTold, ToldAs, EndsAs, CanBePlayed, HasPiece, MadeTree, MadeText, CutsTree, CutsText, CreateCause, CreateTold, TaskPoolFull, IsOutcome, is_whole, is_unfailed, is_early};
+ghost use Rattle.ny_top.specs.Ends.{FaultTold, ToldAs, EndsAs, HasPiece, MadeTree, MadeText, CutsTree, CutsText, CreateCause, CreateTold, TaskPoolFull, IsOutcome, is_whole, is_unfailed, is_early};
 ghost use Rattle.ny_top.specs.Views.{task_view};
 ghost use Rattle.ny_top.specs.Words.{IsInRange};
 
@@ -76,7 +76,6 @@ fn run_accepted<H: Host>(
     ensures unfailed { IsTrue (is_unfailed result) → SameCounts (H.state host.old) (H.state host.new) }
     ensures whole { IsTrue (is_whole result) → EndsAs (HasTreeOutcome (task_view task.entry) accepted.tree left.new) result (H.state host.old) (H.state host.new) }
     ensures pool_full { result ≡ Status.PoolFull → TaskPoolFull (task_view task.entry) left.new }
-    ensures piece { result ≡ Status.OpenFault → CanBePlayed accepted.tree }
     ensures create { result ≡ Status.OpenFault → CreateCause (task_view task.entry) (H.state host.old) (H.state host.new) }
     ensures write { result ≡ Status.WriteFault → Rose (H.state host.old).writes (H.state host.new).writes }
     ensures told { result ≡ Status.WriteFault → FaultTold [] (H.state host.old) (H.state host.new)

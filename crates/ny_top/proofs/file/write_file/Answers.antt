@@ -76,7 +76,7 @@ returns-in-Err-PoolFull-clause-unfailed g c = λ unfailed.
     let mid = g.H.Host.state c.create.new.self in
     let later = g.H.Host.state c.write_parts.new.host in
     let stopped = (rw c.in-Err-PoolFull.field-0-is at c.in-Err-PoolFull.ensures.fault) in
-    quiet_then old later (g.H.Host.state c.end_full.new.host) (quiet_then old mid later c.in-Ok.ensures.quiet stopped.2) (c.end_full.ensures.unfailed unfailed)
+    quiet_then old later (g.H.Host.state c.end_full.new.host) (quiet_then old mid later c.in-Ok.ensures.quiet stopped.3) (c.end_full.ensures.unfailed unfailed)
 
 pub returns-in-Err-PoolFull-clause-early : goal.returns-in-Err-PoolFull-clause-early
 returns-in-Err-PoolFull-clause-early g c = λ early. absurd (a_late c.end_full.result PoolFull WriteFault early c.end_full.ensures.status refl refl)
@@ -89,8 +89,8 @@ returns-in-Err-PoolFull-clause-whole g c = λ whole.
     let stopped = (rw c.in-Err-PoolFull.field-0-is at c.in-Err-PoolFull.ensures.fault) in
     let is = only_full c.end_full.result whole c.end_full.ensures.status in
     ends_at _ c.end_full.result PoolFull old new is
-    (fills (render_view c.args.render) c.args.engine.now c.write_parts.new.engine old (g.H.Host.state c.create.new.self) new n
-    c.requires.new stopped.0 c.in-Ok.ensures.created (c.end_full.ensures.output.created ∙ stopped.1)
+    (fills (render_view c.args.render) c.args.engine.now c.write_parts.new.engine old (g.H.Host.state c.create.new.self) new stopped.0 n
+    c.requires.new stopped.1 c.in-Ok.ensures.created (c.end_full.ensures.output.created ∙ stopped.2)
     (c.end_full.ensures.told is ∙ ap (λ known. append_known known (full_line_of n)) (c.in-Err-PoolFull.ensures.printed ∙ c.in-Ok.ensures.printed)))
 
 pub returns-in-Err-PoolFull-clause-told : goal.returns-in-Err-PoolFull-clause-told
@@ -100,7 +100,7 @@ returns-in-Err-PoolFull-clause-told g c = λ is.
     let new = g.H.Host.state c.end_full.new.host in
     let n = c.in-Err-PoolFull.pulls in
     let stopped = (rw c.in-Err-PoolFull.field-0-is at c.in-Err-PoolFull.ensures.fault) in
-    inr (inl (fills_told (render_view c.args.render) c.args.engine.now c.write_parts.new.engine old new n c.requires.new stopped.0
+    inr (inl (fills_told (render_view c.args.render) c.args.engine.now c.write_parts.new.engine old new stopped.0 n c.requires.new stopped.1
     (told_from (full_line_of n) old later new (search rules) (c.in-Err-PoolFull.ensures.printed ∙ c.in-Ok.ensures.printed) (c.end_full.ensures.fault is))))
 
 pub returns-in-Err-PoolFull-clause-part : goal.returns-in-Err-PoolFull-clause-part

@@ -1,26 +1,25 @@
-use Rattle.std.proofs.Common.{refl}
-use Rattle.ny_pull.specs.Engine.{next_block}
-use Rattle.ny_wav.specs.WavFile.{frame_of}
-use Rattle.ny_top.proofs.PullLemmas.{passed_more, short_of}
-use Rattle.ny_top.proofs.RoundLemmas.{part_nothing}
-use Rattle.ny_top.proofs.Stages.{quiet_none}
+use Rattle.std.proofs.Common.{ℕ, List, drop, length, refl, subst, ◌∙◌, arith}
+use Rattle.ny_top.specs.Rounds.{Wrote, WrotePart, bytes_of_round}
+use Rattle.ny_top.proofs.RoundLemmas.{on_err, part_nothing}
+use Rattle.ny_top.proofs.FrameLemmas.{kept_bytes}
 use Rattle.ny_top.proofs.rounds.round.Goals as goal
 
-pub returns-in-Err-PoolFull-clause-part : goal.returns-in-Err-PoolFull-clause-part
-returns-in-Err-PoolFull-clause-part g c =
-    part_nothing (frame_of (next_block c.args.engine.now 0)) (g.H.Host.state c.args.host.now) (g.H.Host.state c.args.host.now) refl
+pub returns-in_err-pull_channels-clause-part : goal.returns-in_err-pull_channels-clause-part
+returns-in_err-pull_channels-clause-part g c = on_err c.from_residual.result _ (part_nothing (bytes_of_round c.args.engine.now c.args.round) (g.H.Host.state c.args.host.now) (g.H.Host.state c.args.host.now) refl)
 
-pub returns-in-Ok-write_frames-clause-passed : goal.returns-in-Ok-write_frames-clause-passed
-returns-in-Ok-write_frames-clause-passed g c =
-    let pull = c.in-Ok.ensures in
-    passed_more c.args.engine.now c.pull.new.self c.requires.underway c.requires.left c.in-Ok.count pull.count pull.same pull.pulled
+pub returns-in-Ok-clause-underway : goal.returns-in-Ok-clause-underway
+returns-in-Ok-clause-underway g c = c.in_ok-pull_channels.ensures.underway c.args.round c.requires.underway
 
-pub returns-in-Err-OutOfMemory-clause-part : goal.returns-in-Err-OutOfMemory-clause-part
-returns-in-Err-OutOfMemory-clause-part g c =
-    part_nothing (frame_of (next_block c.args.engine.now 0)) (g.H.Host.state c.args.host.now) (g.H.Host.state c.args.host.now) refl
+pub returns-in-Ok-clause-whole : goal.returns-in-Ok-clause-whole
+returns-in-Ok-clause-whole g c =
+    let bytes =
+    kept_bytes c.args.engine.now c.args.round c.min-count.result c.channels.result c.args.buffers.now.block c.args.buffers.now.samples.len c.frames.result c.pull_channels.new.samples (drop (length c.pull_channels.new.samples) c.args.buffers.now.samples.items) c.requires.underway.count
+    (c.in_ok-pull_channels.ensures.samples c.args.round c.requires.underway) (c.channels.ensures ∙ c.in_ok-pull_channels.ensures.same.channels) c.requires.room.block (omega (arith, c.pull_channels.ensures.size, c.as_mut_slice.ensures.len)) c.frames.ensures c.min-count.ensures in
+    subst (λ (bytes : List ℕ). Wrote bytes (g.H.Host.state c.args.host.now) (g.H.Host.state c.write_frames.new.host)) bytes c.in-Ok.ensures.whole
 
-pub returns-in-Err-OutOfMemory-clause-fault : goal.returns-in-Err-OutOfMemory-clause-fault
-returns-in-Err-OutOfMemory-clause-fault g c =
-    let pull = c.in-Err-OutOfMemory.ensures in
-    let short = short_of c.args.engine.now c.pull.new.self _ c.requires.underway c.in-Err-OutOfMemory.field-0-is pull.waits pull.lacks pull.spent pull.nothing.1 pull.same in
-    (short.0, short.1, short.2, refl, quiet_none (g.H.Host.state c.args.host.now))
+pub returns-in-Err-clause-part : goal.returns-in-Err-clause-part
+returns-in-Err-clause-part g c =
+    let bytes =
+    kept_bytes c.args.engine.now c.args.round c.min-count.result c.channels.result c.args.buffers.now.block c.args.buffers.now.samples.len c.frames.result c.pull_channels.new.samples (drop (length c.pull_channels.new.samples) c.args.buffers.now.samples.items) c.requires.underway.count
+    (c.in_ok-pull_channels.ensures.samples c.args.round c.requires.underway) (c.channels.ensures ∙ c.in_ok-pull_channels.ensures.same.channels) c.requires.room.block (omega (arith, c.pull_channels.ensures.size, c.as_mut_slice.ensures.len)) c.frames.ensures c.min-count.ensures in
+    subst (λ (bytes : List ℕ). WrotePart bytes (g.H.Host.state c.args.host.now) (g.H.Host.state c.write_frames.new.host)) bytes c.in-Err.ensures.part

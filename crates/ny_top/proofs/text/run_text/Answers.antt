@@ -33,7 +33,7 @@ returns-in-Err-Refused-clause-told g c = λ is.
     ))
 
 pub returns-in-Ok-clause-piece : goal.returns-in-Ok-clause-piece
-returns-in-Ok-clause-piece g c = λ is. (c.requires.short, (c.in-Ok.accepted.tree, c.in-Ok.ensures.tree, c.run_accepted.ensures.piece is))
+returns-in-Ok-clause-piece g c = λ is. (c.requires.short, (c.in-Ok.accepted.tree, c.in-Ok.ensures.tree))
 
 pub returns-in-Ok-clause-cut : goal.returns-in-Ok-clause-cut
 returns-in-Ok-clause-cut g c = λ is. inr (c.in-Ok.accepted.tree, c.in-Ok.ensures.tree, c.run_accepted.ensures.cut is)

@@ -1,0 +1,12 @@
+use Rattle.std.proofs.Common.{◌≡◌, ℕ, length}
+use Rattle.ny_pull.specs.Engine.{SamePiece}
+use Rattle.ny_top.specs.Rounds.{IsUnderway}
+use Rattle.ny_top.proofs.RoundLemmas.{BlocksSoFar}
+use Rattle.ny_top.proofs.rounds.pull_channels.Given as goal
+
+-- the channels so far were pulled
+abbrev pub invariant-loop-c : goal.invariant-loop-c
+invariant-loop-c l =
+    SamePiece l.fn.engine l.engine
+    × (length l.samples ≡ length l.fn.samples)
+    × ((rounds : ℕ) → IsUnderway rounds 0 l.fn.engine → IsUnderway rounds l.c l.engine × BlocksSoFar l.fn.engine rounds l.c l.samples)
