@@ -120,8 +120,8 @@ module _ (code : Code) (rate : Rate) (h mid : HeapState Branch) (os : List (Opti
       let less : c < length pulled = omega (arith, within os c s at, inside.count, inside.count_pulled) in
       let filled = drives_channel code h mid os (samples_of code rate) pulled pulled c s u (playing code rate h os pulled frames pulls spent inside unspent) at opens.list walked hears ready in
       let read = read_channel code mid new os (samples_of code rate) pulled (with_pull pulled c) c s to u n filled at opens.list (mark_set pulled c (slice_index pulled c + 1) less)
-          (subst (λ b. slice_index pulled c * b < length (slice_index_or (samples_of code rate) c [])) (sym hears.block) opens.short)
-          passes (run ∙ ap (λ m. run_of mid.block (computed_in mid (list_of s)) s.timing.len (place_of s) m) (room ∙ sym hears.block)) laws trimmed keeps in
+      (subst (λ b. slice_index pulled c * b < length (slice_index_or (samples_of code rate) c [])) (sym hears.block) opens.short)
+      passes (run ∙ ap (λ m. run_of mid.block (computed_in mid (list_of s)) s.timing.len (place_of s) m) (room ∙ sym hears.block)) laws trimmed keeps in
       (read.playing.each c to (get_set_same os c (Some to) (within os c s at))).held
 
 -- ---- a block that is filled and read

@@ -181,7 +181,6 @@ some_waits h laws wants = by (has_waiting h) refl
     by true is = is
     by false is = absurd (wants (none_waits h laws is))
 
-
 -- where no block is free all are taken
 pub all_taken : (h : HeapState Branch) (live : ℕ) → live ≡ live_of h → live ≤ h.pool → free_of h ≡ 0 → live ≡ h.pool
 all_taken h live counted within full = omega (arith, counted, within, full)
