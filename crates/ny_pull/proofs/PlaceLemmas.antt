@@ -1,5 +1,5 @@
 -- The channel at a place.
-use Rattle.std.proofs.Common.{◌≡◌, ℕ, ◌<◌, List, Option, None, Some, length, slice_get, slice_index_or, sym, ap, ◌∙◌}
+use Rattle.std.proofs.Common.{◌≡◌, ℕ, ◌<◌, List, Option, None, Some, length, slice_get, slice_index_or, sym, ap, ◌∙◌, zero, suc, [], ◌∷◌, Bool, true, false, not, refl, arith}
 use Rattle.std.proofs.lemmas.Option.{slice_get-get_or}
 use Rattle.ny_heap.specs.declared.sound.Sound.{Sound}
 use Rattle.ny_hands.proofs.OptionLemmas.{some_same}
@@ -12,3 +12,12 @@ got_same os c d s t less is at = some_same s t (some_same (Some s) (Some t) (sym
 
 pub got_none : (os : List (Option Sound)) (c : ℕ) (d : Option Sound) → c < length os → slice_index_or os c d ≡ None → slice_get os c ≡ Some None
 got_none os c d less is = slice_get-get_or os c d less ∙ ap (λ o. Some o) is
+
+pub got_any : (os : List (Option Sound)) (c : ℕ) (o : Option Sound) → c < length os → o ≡ slice_index_or os c o → slice_get os c ≡ Some o
+got_any [] c o within is = absurd (omega (arith, within))
+got_any (x ∷ os) zero o within is = ap Some (sym is)
+got_any (x ∷ os) (suc c) o within is = got_any os c o (omega (arith, within)) is
+
+pub turned_back : (b : Bool) → b ≡ not (not b)
+turned_back true = refl
+turned_back false = refl
