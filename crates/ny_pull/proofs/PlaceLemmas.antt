@@ -1,5 +1,5 @@
 -- The channel at a place.
-use Rattle.std.proofs.Common.{◌≡◌, ℕ, zero, suc, ◌+◌, ◌<◌, List, [], ◌∷◌, ◌++◌, take, drop, refl, subst, arith, Option, None, Some, length, slice_get, slice_index_or, sym, ap, ◌∙◌}
+use Rattle.std.proofs.Common.{◌≡◌, ℕ, zero, suc, ◌+◌, ◌<◌, Bool, true, false, not, List, [], ◌∷◌, ◌++◌, take, drop, refl, subst, arith, Option, None, Some, length, slice_get, slice_index_or, sym, ap, ◌∙◌}
 use Rattle.std.proofs.lemmas.Option.{slice_get-get_or}
 use Rattle.ny_heap.specs.declared.sound.Sound.{Sound}
 use Rattle.ny_hands.proofs.OptionLemmas.{some_same}
@@ -20,3 +20,12 @@ put_back {A} n xs ys len = subst (λ k. take k (xs ++ ys) ≡ xs) len (first xs)
     first : (zs : List A) → take (length zs) (zs ++ ys) ≡ zs
     first [] = refl
     first (z ∷ zs) = ap (λ rest. z ∷ rest) (first zs)
+
+pub got_any : (os : List (Option Sound)) (c : ℕ) (o : Option Sound) → c < length os → o ≡ slice_index_or os c o → slice_get os c ≡ Some o
+got_any [] c o within is = absurd (omega (arith, within))
+got_any (x ∷ os) zero o within is = ap Some (sym is)
+got_any (x ∷ os) (suc c) o within is = got_any os c o (omega (arith, within)) is
+
+pub turned_back : (b : Bool) → b ≡ not (not b)
+turned_back true = refl
+turned_back false = refl

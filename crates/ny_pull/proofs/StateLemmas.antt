@@ -1,5 +1,5 @@
 -- What a contract is told of a pull of channel c.
-use Rattle.std.proofs.Common.{◌≡◌, ◌≢◌, ℕ, zero, suc, ◌+◌, ◌*◌, ◌<◌, ◌≤◌, Bool, true, false, nat_lt, IsTrue, if◌then◌else◌, List, [], ◌∷◌, length, take, drop, sum, slice_get, slice_index, slice_index_or, slice_set, Option, None, Some, refl, sym, ap, subst, ◌∙◌, arith, length-take, length-drop}
+use Rattle.std.proofs.Common.{◌≡◌, ◌≢◌, ℕ, zero, suc, ◌+◌, ◌*◌, ◌<◌, ◌≤◌, Bool, true, false, nat_lt, IsTrue, if◌then◌else◌, List, [], ◌∷◌, length, take, drop, sum, slice_get, slice_index, slice_index_or, slice_set, Option, None, Some, is_none, refl, sym, ap, subst, ◌∙◌, arith, length-take, length-drop}
 use Rattle.std.proofs.lemmas.Bool.{lt-ltb}
 use Rattle.ny_num.specs.declared.rate.Rate.{Rate}
 use Rattle.ny_num.specs.Sound.{silence}
@@ -36,6 +36,14 @@ module _ (code : Code) (rate : Rate) (os : List (Option Sound)) (pulled : List �
   not_ended frames pulls inside s at ended =
       let long = subst (λ (e : EngineState). HasEnded e c) (sym is) ended in
       absurd (omega (arith, long, inside.given c (Some s) at))
+
+  -- none is left of a channel exactly where it has ended
+  pub ended_told : (frames pulls : ℕ) → IsEngineInside code rate h os pulled frames pulls spent → (x : Option Sound) → slice_get os c ≡ Some x → (b : Bool) → b ≡ is_none x → (IsTrue b → HasEnded e c) × (HasEnded e c → IsTrue b)
+  ended_told frames pulls inside None at b told = (λ t. ended_at frames pulls inside at, λ ended. told)
+  ended_told frames pulls inside (Some s) at b told = (λ t. absurd (never (sym told ∙ t)), λ ended. absurd (not_ended frames pulls inside s at ended))
+    where
+      never : false ≡ true → ⊥
+      never q = cc
 
   pub one_pull : (n : ℕ) → 0 < n → with_pull pulled c ≡ (if nat_lt 0 n then with_pull e.pulled c else e.pulled)
   one_pull n some = ap (λ (e : EngineState). with_pull e.pulled c) is ∙ sym (ap (λ b. if b then with_pull e.pulled c else e.pulled) (lt-ltb 0 n some))
