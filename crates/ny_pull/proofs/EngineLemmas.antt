@@ -14,9 +14,11 @@ use Rattle.ny_check.specs.Heights.{height_of}
 use Rattle.std.specs.List.{fold}
 use Rattle.ny_heap.specs.Heap.{Node, HeapState, node_at, is_open, list_of, place_of, open_unit, live_of}
 use Rattle.ny_heap.specs.Reach.{HeapLaws, IsTrimmed}
-use Rattle.ny_heap.specs.Steps.{IsHeldSound, run_of, computed_in}
+use Rattle.ny_heap.specs.Means.{Parts, Whole, Means, KeepsMeaning, sound_in}
+use Rattle.ny_heap.specs.Steps.{IsHeldSound, Passes, advanced, run_of, computed_in}
 use Rattle.ny_heap.specs.declared.sound.Sound.{Sound}
 use Rattle.ny_hands.specs.declared.branch.Branch.{Branch}
+use Rattle.ny_hands.specs.Frames.{part_is}
 use Rattle.ny_hands.proofs.OptionLemmas.{some_same, some_there}
 use Rattle.ny_walk.specs.Below.{Walked, Stopped}
 use Rattle.ny_walk.specs.Heard.{StaysHeard}
@@ -104,6 +106,23 @@ module _ (code : Code) (rate : Rate) (h : HeapState Branch) (os : List (Option S
 
   pub opens_at : (c : ℕ) (s : Sound) (u : ℕ) → slice_get os c ≡ Some (Some s) → open_unit h (list_of s) ≡ Some u → Opens h s (slice_index_or (samples_of code rate) c []) (slice_index pulled c) u
   opens_at c s u at opens = open_of h playing.whole s (slice_index_or (samples_of code rate) c []) (slice_index pulled c) u inside.laws (channel_of c s at) opens
+
+-- ---- the sound that is read is in hand
+
+module _ (code : Code) (rate : Rate) (h mid : HeapState Branch) (os : List (Option Sound)) (pulled : List ℕ) (frames pulls : ℕ) (spent : Option PullFault) (inside : IsEngineInside code rate h os pulled frames pulls spent) (unspent : spent ≡ None) (c u : ℕ) (found : (s : Sound) × (slice_get os c ≡ Some (Some s)) × (open_unit h (list_of s) ≡ Some u)) (walked : Walked code (height_of code) h mid u) (hears : StaysHeard code h mid) (ready : IsReady code mid) where
+  pub held_mid : IsHeldSound mid found.0
+  held_mid = hears.sounds found.0 (channel_of code rate h os pulled frames pulls spent inside unspent c found.0 found.1).held
+
+  pub held_after : (most n : ℕ) (s to : Sound) (new : HeapState Branch) → most ≡ h.block → slice_get os c ≡ Some (Some s) → Passes s to n → n ≡ run_of mid.block (computed_in mid (list_of s)) s.timing.len (place_of s) most → HeapLaws new → IsTrimmed (advanced mid s to) new → KeepsMeaning mid new → IsHeldSound new to
+  held_after most n s to new room at passes run laws trimmed keeps =
+      let same : found.0 ≡ s = some_same found.0 s (some_same (Some found.0) (Some s) (sym found.1 ∙ at)) in
+      let opens = opens_at code rate h os pulled frames pulls spent inside unspent c s u at (ap (λ (q : Sound). open_unit h (list_of q)) (sym same) ∙ found.2) in
+      let less : c < length pulled = omega (arith, within os c s at, inside.count, inside.count_pulled) in
+      let filled = drives_channel code h mid os (samples_of code rate) pulled pulled c s u (playing code rate h os pulled frames pulls spent inside unspent) at opens.list walked hears ready in
+      let read = read_channel code mid new os (samples_of code rate) pulled (with_pull pulled c) c s to u n filled at opens.list (mark_set pulled c (slice_index pulled c + 1) less)
+      (subst (λ b. slice_index pulled c * b < length (slice_index_or (samples_of code rate) c [])) (sym hears.block) opens.short)
+      passes (run ∙ ap (λ m. run_of mid.block (computed_in mid (list_of s)) s.timing.len (place_of s) m) (room ∙ sym hears.block)) laws trimmed keeps in
+      (read.playing.each c to (get_set_same os c (Some to) (within os c s at))).held
 
 -- ---- a block that is filled and read
 
@@ -214,6 +233,19 @@ module _ (code : Code) (rate : Rate) (h mid new : HeapState Branch) (os later : 
     still = λ enough. playing_now;
     full = λ fault is other. absurd (none_spent spent fault unspent is);
   }
+
+  pub count_now : n ≡ length (take h.block (drop (slice_index pulled c * h.block) (slice_index_or (samples_of code rate) c [])))
+  count_now = now_read.count ∙ ap (λ b. length (take b (drop (slice_index pulled c * b) (slice_index_or (samples_of code rate) c [])))) hears.block
+
+  pub some_now : 0 < n
+  some_now = now_read.some
+
+  pub samples_now : (before after : List ℤ) → ((s : Sound) → slice_get os c ≡ Some (Some s) → (part : Parts Branch) (w : Whole) → Means part mid w → after ≡ take n (drop (place_of s) (sound_in w.samples (list_of s) s.timing).samples) ++ drop n before) → after ≡ take h.block (drop (slice_index pulled c * h.block) (slice_index_or (samples_of code rate) c [])) ++ drop n before
+  samples_now before after told =
+      let was = filled.each c reads.sound reads.was in
+      told reads.sound reads.was (part_is code) filled.whole filled.means
+      ∙ ap (λ ys. take n (drop (place_of reads.sound) ys) ++ drop n before) was.samples
+      ∙ ap (λ xs. xs ++ drop n before) (now_read.samples ∙ ap (λ b. take b (drop (slice_index pulled c * b) (slice_index_or (samples_of code rate) c []))) hears.block)
 
 -- ---- a pull that fails
 

@@ -1,18 +1,22 @@
 -- What a contract is told of a pull of channel c.
-use Rattle.std.proofs.Common.{◌≡◌, ◌≢◌, ℕ, ◌+◌, ◌*◌, ◌<◌, ◌≤◌, Bool, true, false, nat_lt, IsTrue, if◌then◌else◌, List, [], length, take, drop, sum, slice_get, slice_index, slice_index_or, slice_set, Option, None, Some, refl, sym, ap, subst, ◌∙◌, arith, length-take, length-drop}
+use Rattle.std.proofs.Common.{◌≡◌, ◌≢◌, ℕ, zero, suc, ◌+◌, ◌*◌, ◌<◌, ◌≤◌, Bool, true, false, nat_lt, IsTrue, if◌then◌else◌, List, [], ◌∷◌, length, take, drop, sum, slice_get, slice_index, slice_index_or, slice_set, Option, None, Some, is_none, refl, sym, ap, subst, ◌∙◌, arith, length-take, length-drop}
 use Rattle.std.proofs.lemmas.Bool.{lt-ltb}
 use Rattle.ny_num.specs.declared.rate.Rate.{Rate}
 use Rattle.ny_num.specs.Sound.{silence}
 use Rattle.ny_check.specs.Code.{Code}
 use Rattle.ny_check.specs.Channels.{channels}
-use Rattle.ny_heap.specs.Heap.{Node, HeapState, node_at, list_of, open_unit, live_of}
+use Rattle.std.specs.Prelude.{◌&&◌, ◌||◌}
+use Rattle.std.specs.List.{list_any}
+use Rattle.ny_heap.specs.Heap.{Node, HeapState, node_at, is_open, list_of, open_unit, live_of, free_of}
+use Rattle.ny_heap.specs.Revealing.{waits_at, has_waiting}
+use Rattle.ny_eval.specs.declared.walk.DriveFault.TheVariants as drive_faults
 use Rattle.ny_heap.specs.Reach.{HeapLaws, IsTrimmed}
 use Rattle.ny_heap.specs.Steps.{Passes, advanced}
 use Rattle.ny_heap.specs.declared.sound.Sound.{Sound}
 use Rattle.ny_hands.specs.declared.branch.Branch.{Branch}
 use Rattle.ny_hands.proofs.OptionLemmas.{some_same}
 use Rattle.ny_walk.specs.Walk.{Walks}
-use Rattle.ny_walk.specs.Stops.{StopsAtFull as WalkStops, FindsNoneFree, RunsOut}
+use Rattle.ny_walk.specs.Stops.{StopsAtFull as WalkStops, FindsNoneFree, RunsOut, NoneWaits}
 use Rattle.ny_eval.specs.Playing.{ArePlaying}
 use Rattle.ny_pull.specs.declared.fault.PullFault.{PullFault}
 use Rattle.ny_pull.specs.declared.fault.PullFault.TheVariants.{PoolFull, OutOfMemory}
@@ -32,6 +36,14 @@ module _ (code : Code) (rate : Rate) (os : List (Option Sound)) (pulled : List �
   not_ended frames pulls inside s at ended =
       let long = subst (λ (e : EngineState). HasEnded e c) (sym is) ended in
       absurd (omega (arith, long, inside.given c (Some s) at))
+
+  -- none is left of a channel exactly where it has ended
+  pub ended_told : (frames pulls : ℕ) → IsEngineInside code rate h os pulled frames pulls spent → (x : Option Sound) → slice_get os c ≡ Some x → (b : Bool) → b ≡ is_none x → (IsTrue b → HasEnded e c) × (HasEnded e c → IsTrue b)
+  ended_told frames pulls inside None at b told = (λ t. ended_at frames pulls inside at, λ ended. told)
+  ended_told frames pulls inside (Some s) at b told = (λ t. absurd (never (sym told ∙ t)), λ ended. absurd (not_ended frames pulls inside s at ended))
+    where
+      never : false ≡ true → ⊥
+      never q = cc
 
   pub one_pull : (n : ℕ) → 0 < n → with_pull pulled c ≡ (if nat_lt 0 n then with_pull e.pulled c else e.pulled)
   one_pull n some = ap (λ (e : EngineState). with_pull e.pulled c) is ∙ sym (ap (λ b. if b then with_pull e.pulled c else e.pulled) (lt-ltb 0 n some))
@@ -138,3 +150,63 @@ module _ (code : Code) (rate : Rate) (h : HeapState Branch) (os : List (Option S
       means = still.means;
       each = λ c s at. (still.each c s at).samples ∙ samples_at (channels code rate) c rate;
     })
+
+-- ---- parts that wait
+
+-- no unit that has a block left has a part that waits
+waits_nowhere : {B : Type 0} (block : ℕ) (os : List (Option (Node B))) (v : ℕ) (x : Node B) → list_any (waits_at block) os ≡ false → slice_index_or os v None ≡ Some x → waits_at block (Some x) ≡ false
+waits_nowhere block [] v x none at = cc
+waits_nowhere block (o ∷ os) zero x none at = ap (waits_at block) (sym at) ∙ or_first (waits_at block o) (list_any (waits_at block) os) none
+  where
+    or_first : (a b : Bool) → (a || b) ≡ false → a ≡ false
+    or_first false b q = refl
+    or_first true b q = cc
+waits_nowhere block (o ∷ os) (suc v) x none at = waits_nowhere block os v x (or_last (waits_at block o) (list_any (waits_at block) os) none) at
+  where
+    or_last : (a b : Bool) → (a || b) ≡ false → b ≡ false
+    or_last false b q = q
+    or_last true b q = cc
+
+nil_unless : {A : Type 0} (xs : List A) → nat_lt 0 (length xs) ≡ false → xs ≡ []
+nil_unless [] q = refl
+nil_unless (x ∷ xs) q = absurd (never (sym (lt-ltb 0 (length (x ∷ xs)) (omega arith)) ∙ q))
+  where
+    never : true ≡ false → ⊥
+    never q = cc
+
+pub none_waits : (h : HeapState Branch) → HeapLaws h → has_waiting h ≡ false → NoneWaits h
+none_waits h laws none v x at = by_open (is_open h.block x) refl
+  where
+    by_open : (b : Bool) → is_open h.block x ≡ b → x.waiting ≡ []
+    by_open false closed = ((laws.nodes v x at).waits_for_nothing closed).0
+    by_open true opens = nil_unless x.waiting (ap (λ b. b && nat_lt 0 (length x.waiting)) (sym opens) ∙ waits_nowhere h.block h.nodes v x none at)
+
+-- so where memory was missing some part waited
+pub some_waits : (h : HeapState Branch) → HeapLaws h → (NoneWaits h → ⊥) → has_waiting h ≡ true
+some_waits h laws wants = by (has_waiting h) refl
+  where
+    by : (b : Bool) → has_waiting h ≡ b → has_waiting h ≡ true
+    by true is = is
+    by false is = absurd (wants (none_waits h laws is))
+
+-- where no block is free all are taken
+pub all_taken : (h : HeapState Branch) (live : ℕ) → live ≡ live_of h → live ≤ h.pool → free_of h ≡ 0 → live ≡ h.pool
+all_taken h live counted within full = omega (arith, counted, within, full)
+
+nil_of : {A : Type 0} (xs : List A) → length xs ≡ 0 → xs ≡ []
+nil_of [] e = refl
+nil_of (x ∷ xs) e = absurd (omega (arith, e))
+
+pub none_next : (e : EngineState) (c : ℕ) → HasEnded e c → next_block e c ≡ []
+none_next e c ended = nil_of (next_block e c) (omega (arith, length-take e.heap.block (drop (passed_of e c) (channel_at e c)), length-drop (passed_of e c) (channel_at e c), ended))
+
+pub want_is_not_full : drive_faults.OutOfMemory ≡ drive_faults.PoolFull → ⊥
+want_is_not_full e = cc
+
+module _ (code : Code) (rate : Rate) (os : List (Option Sound)) (pulled : List ℕ) (spent : Option PullFault) (h : HeapState Branch) (e : EngineState) (is : state code rate os pulled spent h ≡ e) (c : ℕ) where
+  pub waits_now : HeapLaws h → (NoneWaits h → ⊥) → has_waiting e.heap ≡ true
+  waits_now laws wants = ap (λ (e : EngineState). has_waiting e.heap) (sym is) ∙ some_waits h laws wants
+
+  -- where none waits, a pull fails exactly where the pool is full
+  pub needs_quietly : (s : Sound) (u : ℕ) → slice_get os c ≡ Some (Some s) → open_unit h (list_of s) ≡ Some u → HeapLaws h → has_waiting e.heap ≡ false → (b : Bool) → (NoneWaits h → (IsTrue b → FindsNoneFree code h u) × (FindsNoneFree code h u → IsTrue b)) → (IsTrue b → NeedsMore e c) × (NeedsMore e c → IsTrue b)
+  needs_quietly s u at opens laws quiet b exact = needs_exactly code rate os pulled spent h e is c s u at opens b (exact (none_waits h laws (ap (λ (e : EngineState). has_waiting e.heap) is ∙ quiet)))

@@ -1,4 +1,4 @@
-//! The engine: the channel of a program, a block at a time, over a pool of fixed size.
+//! The engine: the channels of a program, each a block at a time, over a pool of fixed size.
 //!
 //! A pull computes no more than the next block of the channel needs. The rules stand in
 //! `docs/DEFINITIONS.md`, "Blocks" and "The engine".
