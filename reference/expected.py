@@ -1,8 +1,8 @@
 """Prints what the case program must print: `python3 reference/expected.py > crates/ny_cases/stdout`.
 
 It reads the lists in `crates/ny_cases/data/`, whose form `crates/ny_cases/CASES.md` describes, and answers each
-case by `nyq.py`. With the word `later` it takes all forms of the language as built; with a list's file as a further word
-it answers the cases of that list alone."""
+case by `nyq.py`. With the word `later` it takes the commands that `nyq` doesn't have yet; with a list's file
+as a further word it answers the cases of that list alone."""
 
 import os
 import sys

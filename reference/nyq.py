@@ -782,33 +782,6 @@ class Acceptance:
         return total
 
 
-NOT_BUILT = ("vector",)
-
-
-def is_built(tree, acceptance):
-    """Whether `nyq` plays the text today: each node that is reached from what is played, global values left out and the bodies
-    of called functions not, is none of `NOT_BUILT`."""
-    known = {}
-
-    def function_built(number):
-        if number not in known:
-            known[number] = built(tree.decls[number].body)
-        return known[number]
-
-    def built(e):
-        if e.form in ("number", "name"):
-            return True
-        if e.form == "block":
-            return all(built(value) for _, _, value in e.binds) and built(e.parts[0])
-        if e.form == "call" and e.name in NOT_BUILT:
-            return False
-        if e.form == "call" and e.name not in BUILT_INS:
-            return all(built(part) for part in e.parts) and function_built(acceptance.functions[e.name])
-        skipped = 1 if e.form == "call" and (e.name == "warp" or e.name in RATE_CALLS) else 0
-        return all(built(part) for part in e.parts[skipped:])
-    return built(tree.play)
-
-
 # ---------------------------------------------------------------------------------------------------------------------
 # The warp and the environment
 # ---------------------------------------------------------------------------------------------------------------------
@@ -1762,8 +1735,6 @@ def do(words, host, later):
             return host.print_all(canonical(tree))
         except Failed:
             raise End(WRITE_FAULT, "")
-    if not later and not is_built(tree, acceptance):
-        raise End(REFUSED, "refused: form")
     rate = command.get("--rate")
     engine = Engine(tree, acceptance, rate, command.get("--block"), command.get("--pool"))
     if command.name == "live":
@@ -1773,7 +1744,7 @@ def do(words, host, later):
 
 
 def run(words, host, later=False):
-    """The exit code of a command. `later` takes all forms and commands, also those that `nyq` doesn't have yet."""
+    """The exit code of a command. `later` takes also the commands that `nyq` doesn't have yet."""
     try:
         do(words, host, later)
         return OK

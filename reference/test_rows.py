@@ -154,6 +154,58 @@ def turns():
     assert render(apart, "--pool 2")[0] == 0 and render(apart, "--pool 1")[0] == 8
 
 
+def vectors():
+    """Channels side by side. `cc0c` is 0.1, `9919` 0.2, `ff1f` 0.25, `ff3f` 0.5."""
+    rows = {
+        "vector(const(0.5, 0.001))": (1, "ff3f" * 8),
+        "vector(const(0.25, 0.001), const(0.5, 0.002))": (2, "ff1fff3f" * 8 + "0000ff3f" * 8),
+        "vector(const(0.25, 0.002), const(0.5, 0.001))": (2, "ff1fff3f" * 8 + "ff1f0000" * 8),
+        # a channel that ends some blocks before the other
+        "vector(const(0.1, 0.001), const(0.2, 0.006), const(0.5, 0.003))":
+            (3, "cc0c9919ff3f" * 8 + "00009919ff3f" * 16 + "000099190000" * 24),
+        # channels without a sample, and with none at their beginning
+        "vector(const(1, 0), const(0.2, 0.001))": (2, "00009919" * 8),
+        "vector(const(0.2, 0.001), s-rest(0), const(0.1, 0.001))": (3, "99190000cc0c" * 8),
+        "vector(const(1, 0), s-rest(0))": (2, ""),
+        "vector(const(0.1, 0.001) @ 0.001, const(0.2, 0.001))": (2, "00009919" * 8 + "cc0c0000" * 8),
+        "vector(" + ", ".join("const(%s, 0.001)" % x for x in ("0.1", "0.2") * 4) + ")": (8, "cc0c9919" * 32),
+        # one sound in two channels: its name moves it to no other time, and a cue to the time of its own stretch
+        "begin with x = const(0.25, 0.001) return vector(x, cue(x)) end": (2, "ff1fff1f" * 8),
+        "begin with x = const(0.25, 0.001) return vector(cue(x) @ 0.001, x) end": (2, "0000ff1f" * 8 + "ff1f0000" * 8),
+        "begin with x = seq(const(0.1, 0.002), const(0.2, 0.001)) return vector(cue(x), cue(x) @ 0.001) end":
+            (2, "cc0c0000" * 8 + "cc0ccc0c" * 8 + "9919cc0c" * 8 + "00009919" * 8),
+        "#if(1 < 2, vector(const(0.1, 0.001), const(0.2, 0.001)), vector(const(0.5, 0.001), const(0.5, 0.001)))":
+            (2, "cc0c9919" * 8),
+        "vector(seq(const(0.1, 0.001), const(0.2, 0.001)), seqrep(i, 2, const(i * 0.5, 0.001)))":
+            (2, "cc0c0000" * 8 + "9919ff3f" * 8),
+    }
+    for text, (count, bytes_) in rows.items():
+        for more in ("", "--pool 8"):
+            code, file, printed = render("play " + text, more)
+            assert (code, printed, file[44:].hex()) == (0, "", bytes_), text
+            assert file[22:24] == bytes([count, 0]) and file[32:34] == bytes([2 * count, 0]), text
+            assert int.from_bytes(file[40:44], "little") == len(bytes_) // 2, text
+        long = run("render in.sal out.wav --rate 8000 --block 4096", "play " + text)
+        assert long[1] == file, text
+    # a full pool counts the pulls of all channels, and no frame of its round is written
+    grows = "const(0.1, 0.01) + const(0.1, 0.01) @ 0.004"
+    rows = {
+        "vector(const(0.1, 0.004), const(0.2, 0.004) + const(0.1, 0.004))": (1, 44),
+        "vector(const(0.2, 0.004) + const(0.1, 0.004), const(0.1, 0.004))": (0, 44),
+        "vector(const(0.1, 0.01), %s)" % grows: (5, 44 + 32 * 4),
+        "vector(%s, const(0.1, 0.01))" % grows: (4, 44 + 32 * 4),
+        "vector(const(0.1, 0.002), %s)" % grows: (3, 44 + 32 * 4),
+        "vector(const(0.1, 0.002), %s, const(0.1, 0.004))" % grows: (5, 44 + 32 * 6),
+        "vector(const(1, 0), %s)" % grows: (2, 44 + 32 * 4),
+    }
+    for text, (pulls, size) in rows.items():
+        code, file, printed = render("play " + text, "--pool 2")
+        assert (code, len(file), printed) == (8, size, "pool full after %d pulls\n" % pulls), text
+        assert render("play " + text)[1].startswith(file), text
+    code, file, printed = render("play vector(const(0.1, 0.004), const(0.2, 0.004))", fails=[("write", 3)])
+    assert (code, len(file), printed) == (5, 44 + 16 * 4, "fault: write\n")
+
+
 def chain(last, zero, step):
     text = "define function f0() return %s\n" % zero
     for k in range(1, last + 1):
@@ -258,7 +310,7 @@ def pieces():
 
 
 def all_rows():
-    for rows in (files, sequences, turns, faults, pools_and_hosts, sounds, liveness, pieces):
+    for rows in (files, sequences, turns, vectors, faults, pools_and_hosts, sounds, liveness, pieces):
         rows()
         print(rows.__name__, "hold")
 
