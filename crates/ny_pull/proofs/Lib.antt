@@ -1,3 +1,4 @@
 pub mod PlaceLemmas
 pub mod EngineLemmas
 pub mod StateLemmas
+pub mod BegunLemmas
