@@ -2,3 +2,4 @@ pub mod PlaceLemmas
 pub mod EngineLemmas
 pub mod StateLemmas
 pub mod BegunLemmas
+pub mod OpenLemmas

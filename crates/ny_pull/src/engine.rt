@@ -19,13 +19,13 @@ use ny_check::Program;
 use ny_eval::{DriveFault, drive, eval_channels};
 use ny_hands::Branch;
 use ny_heap::{Heap, Sound, UnitId};
+use ny_laws::meaning_law;
 use ny_num::{Rate, Sample};
 use std::alloc::{AllocError, Global};
 use std::collections::VecDeque;
 use std::marker::Model;
 
-/// What is left of a sound: the sound itself while some of it is to be read, and else nothing. It is
-/// given up then.
+/// What is left of a sound: the sound itself while some of it is to be read, and else nothing. It is given up then.
 fn left(heap: &mut Heap<Branch>, sound: Sound) -> Option<Sound>
     requires laws { HeapLaws heap.old }
     requires held { IsHeldSound heap.old sound }
@@ -147,8 +147,7 @@ impl Model for Engine {
 }
 
 impl Engine {
-    /// An engine for a program, at a rate, over a pool of `pool` blocks of `block` samples each. It plays each
-    /// channel from its first sample on, and has filled nothing.
+    /// An engine for a program, at a rate, over `pool` blocks of `block` samples. It plays each channel from its first sample on.
     ///
     /// # Errors
     /// `AllocError` where memory is missing.
@@ -168,6 +167,8 @@ impl Engine {
         ensures laws { IfOk result (λ e. HeapLaws e.heap) }
         ensures means { IfOk result (λ e. MeansItsChannels e) }
     {
+        program.order_law();
+        meaning_law(&program);
         let mut heap = Heap::open(alloc, pool, block)?;
         let sounds = eval_channels(alloc, &program, rate, &mut heap)?;
         let frames = frames_of(sounds.as_slice());
