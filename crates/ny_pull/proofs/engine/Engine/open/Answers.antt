@@ -40,5 +40,5 @@ returns-clause-means c =
     let same = c.meaning_law.ensures.channels c.args.rate in
     let none = counts_are c.args.program c.args.rate _ _ _ _ are begun _ _ (c.in_ok-pulled.ensures.items_if_clones_equal (λ y same. same)) (ap length c.as_slice-2.ensures.value) in
     let inside : IsEngineInside c.args.program c.args.rate c.begun.new.heap c.in_ok-channels.channels.items c.in_ok-pulled.pulled.items c.frames_of-frames.result 0 None =
-        begins_inside c.args.program c.args.rate _ _ _ _ are begun c.in_ok-pulled.pulled.items c.frames_of-frames.result 0 None none (c.frames_of-frames.ensures ∙ ap longest_of c.as_slice.ensures.value) refl refl (omega (arith, same, few.0), omega (arith, same, few.1)) in
+    begins_inside c.args.program c.args.rate _ _ _ _ are begun c.in_ok-pulled.pulled.items c.frames_of-frames.result 0 None none (c.frames_of-frames.ensures ∙ ap longest_of c.as_slice.ensures.value) refl refl (omega (arith, same, few.0), omega (arith, same, few.1)) in
     means_channels _ _ _ _ _ _ _ _ _ refl inside (λ is. none_spent None OutOfMemory refl is)
