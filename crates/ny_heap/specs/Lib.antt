@@ -1,4 +1,5 @@
 pub mod Heap
+pub mod Kinds
 pub mod Means
 pub mod Reach
 pub mod Steps

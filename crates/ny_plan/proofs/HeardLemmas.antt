@@ -31,7 +31,7 @@ use Rattle.ny_resolve.specs.declared.term.NameId.{NameId}
 use Rattle.ny_scope.proofs.Mapped.{with_value}
 use Rattle.std.proofs.lemmas.List.Elements.{All-nil, All-cons}
 use Rattle.ny_plan.specs.Plan.{Names}
-use Rattle.ny_plan.specs.Kinds.{UnitKind, Resample, Sub, Mul, kind_of_op}
+use Rattle.ny_heap.specs.Kinds.{UnitKind, Resample, Sub, Mul, kind_of_op}
 use Rattle.ny_plan.specs.Rows.{RowSound, Input, Row, After, Step, row_at, no_row, first_samples, beginning, whole_row, whole_at, given, each, shown, silent, input, unit}
 use Rattle.ny_plan.specs.Units.{first, second, row_over, brought, paired, negated, cued}
 use Rattle.ny_plan.specs.Order.{IsBelow, IsValueBelow, AreNamesBelow, IsInputOf, AllRows, Leaves}

@@ -13,7 +13,7 @@ use Rattle.ny_plan.specs.Plan.{Names, names_after, operand, played_at, played, p
 use Rattle.ny_check.specs.Channels.{operand as meant_operand, plays_node, played as meant_played, channel_at, channels}
 use Rattle.ny_num.specs.Mix.{channel, channel_timing}
 use Rattle.ny_num.proofs.SoundTimings.{timing_of-channel}
-use Rattle.ny_plan.specs.Kinds.{Channel}
+use Rattle.ny_heap.specs.Kinds.{Channel}
 use Rattle.ny_plan.specs.Units.{channel_row, first, brought}
 use Rattle.ny_plan.proofs.BothRecursions.{by_smaller-both}
 use Rattle.ny_plan.proofs.OrderLemmas.{no_rows, leaves_given, input_of, AreBelow}

@@ -7,12 +7,12 @@ use Rattle.std.proofs.lemmas.List.{get_or_past}
 use Rattle.ny_list.proofs.IndexLemmas.{none_some}
 use Rattle.ny_heap.specs.Heap.{Node, HeapState, node_at, kept_of, kept_from, live_of}
 use Rattle.ny_heap.specs.Reach.{HeapLaws}
-use Rattle.ny_plan.specs.Kinds.{UnitKind}
+use Rattle.ny_heap.specs.Kinds.{UnitKind, unit_kind, kept_of_kinds}
 use Rattle.ny_plan.specs.Rows.{Row, row_at}
 use Rattle.ny_plan.specs.Need.{Filled}
 use Rattle.ny_plan.specs.Liveness.{readers, is_held, least_passed, live_in, live_below, live_of_kinds, live}
 use Rattle.ny_plan.specs.Held.{IsInOrder}
-use Rattle.ny_plan.specs.StandsFor.{unit_kind, Matches, kept_of_kinds}
+use Rattle.ny_plan.specs.StandsFor.{Matches}
 use Rattle.ny_plan.proofs.SumLemmas.{sum_to, sum_to-alike, sum_by_match}
 use Rattle.ny_plan.proofs.ReaderLemmas.{held_is}
 use Rattle.ny_plan.proofs.StandsLemmas.{kept_is_live, held_unit}

@@ -23,7 +23,8 @@ use Rattle.ny_plan.specs.Rows.{RowSound, Input, Row, row_at}
 use Rattle.ny_plan.specs.Need.{Filled, takes_as, need, computed, is_open, has_come}
 use Rattle.ny_plan.specs.Liveness.{Reader, is_channel, reader_of, reads_left, reads_of, readers, least_passed, live_in}
 use Rattle.ny_plan.specs.Held.{Has, ReadsBy, IsOutside, HeldIn, IsHeld, IsInOrder}
-use Rattle.ny_plan.specs.StandsFor.{unit_kind, ReadsFor, Keeps, KeepsPart, waiting_inputs, IsRoot, UnitMatches, Matches}
+use Rattle.ny_heap.specs.Kinds.{unit_kind}
+use Rattle.ny_plan.specs.StandsFor.{ReadsFor, Keeps, KeepsPart, waiting_inputs, IsRoot, UnitMatches, Matches}
 use Rattle.ny_plan.proofs.ItemLemmas.{some_item, item-le, zip-right, zip-left, in_filter, to_filter}
 use Rattle.ny_plan.proofs.LeastLemmas.{first_read-least}
 use Rattle.ny_plan.proofs.ReaderLemmas.{has-flat_map, in_flat_map, reader_is, is_reader, is_held_in}

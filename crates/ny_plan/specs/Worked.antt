@@ -15,7 +15,7 @@ use Rattle.ny_check.specs.declared.node.Generator.TheVariants as generator
 use Rattle.ny_check.specs.declared.node.Transformation.TheVariants as by
 use Rattle.ny_check.specs.declared.node.Change.TheVariants as change
 use Rattle.ny_check.specs.Code.{Code}
-use Rattle.ny_plan.specs.Kinds.{UnitKind}
+use Rattle.ny_heap.specs.Kinds.{UnitKind}
 use Rattle.ny_plan.specs.Rows.{RowSound, Input, Row}
 use Rattle.ny_plan.specs.Plan.{plan}
 use Rattle.ny_plan.specs.Lines.{Line, Pull, Peak, PoolFull, lines}

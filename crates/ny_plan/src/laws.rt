@@ -6,7 +6,7 @@ ghost use Rattle.ny_num.specs.declared.rate.Rate.{Rate};
 ghost use Rattle.ny_check.specs.Code.{Code};
 ghost use Rattle.ny_check.specs.Channels.{channels};
 ghost use Rattle.ny_heap.specs.Heap.{live_of};
-ghost use Rattle.ny_plan.specs.Kinds.{UnitKind};
+ghost use Rattle.ny_heap.specs.Kinds.{UnitKind, kept_of_kinds};
 ghost use Rattle.ny_plan.specs.Rows.{Input, Row, row_at, beginning, whole_at};
 ghost use Rattle.ny_plan.specs.Plan.{plan};
 ghost use Rattle.ny_plan.specs.Need.{Filled, need, has_come};
@@ -15,7 +15,7 @@ ghost use Rattle.ny_plan.specs.Lines.{no_pulls, pulled};
 ghost use Rattle.ny_plan.specs.Liveness.{live, live_of_kinds};
 ghost use Rattle.ny_plan.specs.Peak.{nothing_filled};
 ghost use Rattle.ny_plan.specs.Order.{IsBelow, AllRows};
-ghost use Rattle.ny_plan.specs.StandsFor.{Matches, kept_of_kinds};
+ghost use Rattle.ny_plan.specs.StandsFor.{Matches};
 
 use ny_heap::Heap;
 

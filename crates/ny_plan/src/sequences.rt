@@ -2,7 +2,7 @@
 //! computed, in blocks of 16 samples at 8000 samples a second. The programs stand in `specs/Worked.antt`.
 
 ghost use Rattle.std.specs.Prelude.{◌≡◌, [], ◌∷◌, Some};
-ghost use Rattle.ny_plan.specs.Kinds.{Osc, Mix, Channel};
+ghost use Rattle.ny_heap.specs.Kinds.{Osc, Mix, Channel};
 ghost use Rattle.ny_plan.specs.Lines.{Peak};
 ghost use Rattle.ny_plan.specs.Worked.{rows_seen, lines_of, pull, ample, overlapping, twice, unshared, untaken};
 
