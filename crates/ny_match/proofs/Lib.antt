@@ -1,0 +1,4 @@
+pub mod GrowLemmas
+pub mod MadeLemmas
+pub mod SeatLemmas
+pub mod BornLemmas
