@@ -124,7 +124,7 @@ grows_channel s = grows_unit _ _ (input s ∷ []) _
 abbrev pub PartGrows : Part → Type 0
 PartGrows part = (from : Env) → Grows (part.sound from)
 
-grows_sounds : (env : Env) (parts : List Part) → AllByRecursion PartGrows parts → Grows (each (λ (part : Part). part.sound env) parts)
+pub grows_sounds : (env : Env) (parts : List Part) → AllByRecursion PartGrows parts → Grows (each (λ (part : Part). part.sound env) parts)
 grows_sounds env [] h rows = first_self rows
 grows_sounds env (p ∷ ps) h rows = let a = p.sound env rows in first_then rows a.rows _ (h.0 env rows) (grows_sounds env ps h.1 a.rows)
 

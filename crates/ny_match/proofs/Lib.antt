@@ -3,3 +3,8 @@ pub mod MadeLemmas
 pub mod SeatLemmas
 pub mod BornLemmas
 pub mod UnitLemmas
+pub mod NameLemmas
+pub mod OperandLemmas
+pub mod FrameLemmas
+pub mod MixLemmas
+pub mod EvaluationLemmas

@@ -228,6 +228,19 @@ module _ (code : Code) (all : List Row) (filled : Filled) where
       given_turn old new seats (λ row. IsSound row s) rows (silent rate) m (from_trimmed old new [] (step.makes.none refl)) (trimmed_block old new [] (step.makes.none refl))
       (record { names = sym (ap (option_map seats.row) step.makes.result.list); timing = step.makes.result.timing })
 
+  -- a unit that has no sample is none
+  pub none_turn : (old new : HeapState Branch) (seats : Seats) (rows : List Row) (t : Timing) (s : Sound) (kind : Kind) → t.len ≡ 0 → Matched code all filled old seats → MakesUnit old new kind t [] [] [] s → Turns old new seats (λ row. IsSound row s) rows (given (shown None t) rows)
+  none_turn old new seats rows t s kind z m step =
+      given_turn old new seats (λ row. IsSound row s) rows (shown None t) m (from_trimmed old new [] (step.makes.none z)) (trimmed_block old new [] (step.makes.none z))
+      (record {
+        names = either (nat_eq t.len 0) ∙ sym (ap (option_map seats.row) (step.makes.result.list ∙ ap (λ n. if nat_lt 0 n then Some step.makes.node else None) z));
+        timing = step.makes.result.timing;
+      })
+    where
+      either : (b : Bool) → cond {A = Option ℕ} b None None ≡ None
+      either true = refl
+      either false = refl
+
   -- ---- a unit
 
   abbrev pub unit_row : UnitKind → Timing → List Input → (List sounds.Sound → List ℤ) → Row
