@@ -92,7 +92,57 @@ module _ (code : Code) (all : List Row) (filled : Filled) where
       by_parts v y none at None e = let f = q.fresh_parts v y e at in (omega (arith, f.0, first), f.1)
       by_parts v y none at (Some x) e = let f = p.fresh_parts v x none e in let same = q.parts v x e in (omega (arith, f.0, same.0), omega (arith, f.1, same.1, second))
 
+  -- the same of two ranges in one
+  pub grew_within : (old mid new : HeapState Branch) (seats next later : Seats) (low high : ℕ) → AreKept old mid → Grew old mid seats next low high → Grew mid new next later low high → Grew old new seats later low high
+  grew_within old mid new seats next later low high kept p q = record {
+    matched = q.matched;
+    row = λ v x at. let y = kept v x at in q.row v y.0 y.1 ∙ p.row v x at;
+    parts = λ v x at. let y = kept v x at in let one = p.parts v x at in let two = q.parts v y.0 y.1 in (two.0 ∙ one.0, two.1 ∙ one.1);
+    fresh = λ v y none at. by_row v y none at (node_at mid v) refl;
+    fresh_parts = λ v y none at. by_parts v y none at (node_at mid v) refl;
+  }
+    where
+      by_row : (v : ℕ) (y : Node Branch) → node_at old v ≡ None → node_at new v ≡ Some y → (o : Option (Node Branch)) → node_at mid v ≡ o → (low ≤ later.row v) × (later.row v < high)
+      by_row v y none at None e = q.fresh v y e at
+      by_row v y none at (Some x) e = let f = p.fresh v x none e in (omega (arith, f.0, q.row v x e), omega (arith, f.1, q.row v x e))
+
+      by_parts : (v : ℕ) (y : Node Branch) → node_at old v ≡ None → node_at new v ≡ Some y → (o : Option (Node Branch)) → node_at mid v ≡ o → (low ≤ later.from v) × (later.upto v ≤ high)
+      by_parts v y none at None e = q.fresh_parts v y e at
+      by_parts v y none at (Some x) e = let f = p.fresh_parts v x none e in let same = q.parts v x e in (omega (arith, f.0, same.0), omega (arith, f.1, same.1))
+
   -- ---- rows that are free
+
+  -- those beside what was made are still free
+  pub free_beside : (old new : HeapState Branch) (seats later : Seats) (a b c d : ℕ) → (b ≤ c) ⊎ (d ≤ a) → Grew old new seats later a b → IsFree filled old seats c d → IsFree filled new later c d
+  free_beside old new seats later a b c d apart g f = record {
+    units = λ v y at. units v y at (node_at old v) refl;
+    parts = λ v y at. parts v y at (node_at old v) refl;
+    unfilled = f.unfilled;
+  }
+    where
+      later_row : (v : ℕ) → later.row v ≡ seats.row v → (seats.row v < c) ⊎ (d ≤ seats.row v) → (later.row v < c) ⊎ (d ≤ later.row v)
+      later_row v same (inl less) = inl (omega (arith, less, same))
+      later_row v same (inr more) = inr (omega (arith, more, same))
+
+      new_row : (v : ℕ) → a ≤ later.row v → later.row v < b → (b ≤ c) ⊎ (d ≤ a) → (later.row v < c) ⊎ (d ≤ later.row v)
+      new_row v least less (inl before) = inl (omega (arith, less, before))
+      new_row v least less (inr behind) = inr (omega (arith, least, behind))
+
+      units : (v : ℕ) (y : Node Branch) → node_at new v ≡ Some y → (o : Option (Node Branch)) → node_at old v ≡ o → (later.row v < c) ⊎ (d ≤ later.row v)
+      units v y at None e = let q = g.fresh v y e at in new_row v q.0 q.1 apart
+      units v y at (Some x) e = later_row v (g.row v x e) (f.units v x e)
+
+      later_parts : (v : ℕ) → later.from v ≡ seats.from v → later.upto v ≡ seats.upto v → (seats.upto v ≤ c) ⊎ (d ≤ seats.from v) → (later.upto v ≤ c) ⊎ (d ≤ later.from v)
+      later_parts v from upto (inl less) = inl (omega (arith, less, upto))
+      later_parts v from upto (inr more) = inr (omega (arith, more, from))
+
+      new_parts : (v : ℕ) → a ≤ later.from v → later.upto v ≤ b → (b ≤ c) ⊎ (d ≤ a) → (later.upto v ≤ c) ⊎ (d ≤ later.from v)
+      new_parts v least most (inl before) = inl (omega (arith, most, before))
+      new_parts v least most (inr behind) = inr (omega (arith, least, behind))
+
+      parts : (v : ℕ) (y : Node Branch) → node_at new v ≡ Some y → (o : Option (Node Branch)) → node_at old v ≡ o → (later.upto v ≤ c) ⊎ (d ≤ later.from v)
+      parts v y at None e = let q = g.fresh_parts v y e at in new_parts v q.0 q.1 apart
+      parts v y at (Some x) e = let same = g.parts v x e in later_parts v same.0 same.1 (f.parts v x e)
 
   pub free_less : (h : HeapState Branch) (seats : Seats) (a b c d : ℕ) → a ≤ c → c ≤ d → d ≤ b → IsFree filled h seats a b → IsFree filled h seats c d
   free_less h seats a b c d from some upto f = record {
@@ -139,16 +189,16 @@ module _ (code : Code) (all : List Row) (filled : Filled) where
     abbrev later : Seats
     later = seated seats n row from upto
 
-    pub new_from : (v : ℕ) (y : Node Branch) → v ≢ n → node_at new v ≡ Some y → (x : Node Branch) × (node_at mid v ≡ Some x) × IsLike x y
+    new_from : (v : ℕ) (y : Node Branch) → v ≢ n → node_at new v ≡ Some y → (x : Node Branch) × (node_at mid v ≡ Some x) × IsLike x y
     new_from v y ne at = let x = (spent_like mid spent).from v y (sym (adds.others v ne) ∙ at) in (x.0, x.1, x.2)
 
-    pub not_new : (v : ℕ) (z : Node Branch) → node_at mid v ≡ Some z → v ≢ n
+    not_new : (v : ℕ) (z : Node Branch) → node_at mid v ≡ Some z → v ≢ n
     not_new v z at same = let y = (spent_like mid spent).to v z at in none_some (node_at (without_sounds mid spent) v) y.0 (ap (node_at (without_sounds mid spent)) same ∙ adds.fresh) y.1
 
     pub new_rows : SameRows mid seats.row later.row
     new_rows v z at = put_else seats.row n row v (not_new v z at)
 
-    pub new_parts : SameParts mid seats later
+    new_parts : SameParts mid seats later
     new_parts v z at = (put_else seats.from n from v (not_new v z at), put_else seats.upto n upto v (not_new v z at))
 
     same_block : new.block ≡ mid.block

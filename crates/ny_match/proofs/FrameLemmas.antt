@@ -75,10 +75,10 @@ module _ (code : Code) (D : Trace) (law : IsLawful code D) (match : IsMatching c
 
   -- ---- blocks
 
-  abbrev NamesAre : Names → (ℕ → ℕ) → plans.Names → Type 0
+  abbrev pub NamesAre : Names → (ℕ → ℕ) → plans.Names → Type 0
   NamesAre names row ns = AreNames row names ns
 
-  binds_turn : (env : Env) (bs : List (NameId × ExprId)) (names : Names) (given_names : plans.Names) (old new : HeapState Branch) (added : Names) (seats : Seats) (rows : List Row) → BindsBelow (length code.nodes) bs → HeapLaws old → AreNamed old names → AreNames seats.row names given_names → BindsTurn D code env bs names old new added
+  pub binds_turn : (env : Env) (bs : List (NameId × ExprId)) (names : Names) (given_names : plans.Names) (old new : HeapState Branch) (added : Names) (seats : Seats) (rows : List Row) → BindsBelow (length code.nodes) bs → HeapLaws old → AreNamed old names → AreNames seats.row names given_names → BindsTurn D code env bs names old new added
       → Fits code all filled old seats rows (names_after code (made code) env bs given_names rows) → Turns code all filled old new seats (NamesAre (names ++ added)) rows (names_after code (made code) env bs given_names rows)
   binds_turn env [] names given_names old new [] seats rows below laws named are step fits =
       subst (λ (h : HeapState Branch). Turns code all filled old h seats (NamesAre (names ++ [])) rows (given given_names rows)) step
@@ -120,7 +120,7 @@ module _ (code : Code) (D : Trace) (law : IsLawful code D) (match : IsMatching c
   -- ---- calls
 
   -- the arguments of the parameters. The plan makes what there is besides, which is no unit
-  args_turn : (env : Env) (names : Names) (given_names : plans.Names) (ps : List NameId) (es : List ExprId) (old new : HeapState Branch) (vs : List (Value Sound)) (seats : Seats) (rows : List Row) → AllBelow (length code.nodes) es → HeapLaws old → AreNamed old names → AreNames seats.row names given_names → ValuesTurn D code env names (take (length ps) es) old new vs
+  pub args_turn : (env : Env) (names : Names) (given_names : plans.Names) (ps : List NameId) (es : List ExprId) (old new : HeapState Branch) (vs : List (Value Sound)) (seats : Seats) (rows : List Row) → AllBelow (length code.nodes) es → HeapLaws old → AreNamed old names → AreNames seats.row names given_names → ValuesTurn D code env names (take (length ps) es) old new vs
       → Fits code all filled old seats rows (each (value_of code (made code) env given_names) es rows) → Turns code all filled old new seats (λ row ws. AreNames row (zip ps vs) (zip ps ws)) rows (each (value_of code (made code) env given_names) es rows)
   args_turn env names given_names [] es old new [] seats rows below laws named are step fits =
       subst (λ (h : HeapState Branch). Turns code all filled old h seats (λ row ws. AreNames row [] []) rows (each (value_of code (made code) env given_names) es rows)) step

@@ -8,3 +8,5 @@ pub mod OperandLemmas
 pub mod FrameLemmas
 pub mod MixLemmas
 pub mod EvaluationLemmas
+pub mod PlaysLemmas
+pub mod OpenLemmas

@@ -102,23 +102,23 @@ abbrev pub SameOn : (ℕ → ℕ) → (ℕ → ℕ) → List Sound → Type 0
 SameOn row later [] = Unit {0}
 SameOn row later (s ∷ ss) = ((n : ℕ) → list_of s ≡ Some n → later n ≡ row n) × SameOn row later ss
 
-same_on : (h : HeapState Branch) (row later : ℕ → ℕ) (ss : List Sound) → AllBegin h ss → SameRows h row later → SameOn row later ss
+pub same_on : (h : HeapState Branch) (row later : ℕ → ℕ) (ss : List Sound) → AllBegin h ss → SameRows h row later → SameOn row later ss
 same_on h row later [] begin same = tt
 same_on h row later (s ∷ ss) begin same = (λ n at. let x = begin.0.shown n at in same n x.unit x.there, same_on h row later ss begin.1 same)
 
-same_then : (a b c : ℕ → ℕ) (ss : List Sound) → SameOn a b ss → SameOn b c ss → SameOn a c ss
+pub same_then : (a b c : ℕ → ℕ) (ss : List Sound) → SameOn a b ss → SameOn b c ss → SameOn a c ss
 same_then a b c [] p q = tt
 same_then a b c (s ∷ ss) p q = (λ n at. q.0 n at ∙ p.0 n at, same_then a b c ss p.1 q.1)
 
-same_first : (row later : ℕ → ℕ) (ss ts : List Sound) → SameOn row later (ss ++ ts) → SameOn row later ss
+pub same_first : (row later : ℕ → ℕ) (ss ts : List Sound) → SameOn row later (ss ++ ts) → SameOn row later ss
 same_first row later [] ts p = tt
 same_first row later (s ∷ ss) ts p = (p.0, same_first row later ss ts p.1)
 
-same_last : (row later : ℕ → ℕ) (ss ts : List Sound) → SameOn row later (ss ++ ts) → SameOn row later ts
+pub same_last : (row later : ℕ → ℕ) (ss ts : List Sound) → SameOn row later (ss ++ ts) → SameOn row later ts
 same_last row later [] ts p = p
 same_last row later (s ∷ ss) ts p = same_last row later ss ts p.1
 
-sound_on : (row later : ℕ → ℕ) (s : Sound) (r : RowSound) → SameOn row later (s ∷ []) → IsSound row s r → IsSound later s r
+pub sound_on : (row later : ℕ → ℕ) (s : Sound) (r : RowSound) → SameOn row later (s ∷ []) → IsSound row s r → IsSound later s r
 sound_on row later s r same is = record { names = is.names ∙ by_list (list_of s) same.0; timing = is.timing }
   where
     by_list : (o : Option ℕ) → ((n : ℕ) → o ≡ Some n → later n ≡ row n) → option_map row o ≡ option_map later o
