@@ -10,3 +10,8 @@ pub mod MixLemmas
 pub mod EvaluationLemmas
 pub mod PlaysLemmas
 pub mod OpenLemmas
+pub mod NextLemmas
+pub mod KeptLemmas
+pub mod TimesLemmas
+pub mod SeqLemmas
+pub mod TurnLemmas

@@ -95,7 +95,7 @@ module _ (row : ℕ → ℕ) (block : ℕ) where
       is_read s i y (subst (λ (q : Input). IsSound row s q.sound) same f.0) named (list_of s) refl
   are_read (s ∷ ss) (j ∷ is) f (suc k) y i at less named = are_read ss is f.2 k y i at (omega (arith, less)) named
 
-positive : (n : ℕ) → n ≢ 0 → 0 < n
+pub positive : (n : ℕ) → n ≢ 0 → 0 < n
 positive zero ne = absurd (ne refl)
 positive (suc n) ne = omega arith
 
