@@ -1,0 +1,5 @@
+pub mod Matched
+pub mod Born
+pub mod Roots
+pub mod Counting
+pub mod Walking

@@ -1,0 +1,4 @@
+//! The units of a heap are the rows of a plan: laws of evaluation, of fills, of parts that fall due, and of walks.
+//!
+//! The rules stand in `docs/DEFINITIONS.md`, "The match".
+#![tactic(auto)]
