@@ -15,22 +15,22 @@ use Rattle.ny_num.proofs.RateLaws.{same_rate}
 use Rattle.ny_warp.specs.declared.env.Env.{Env}
 use Rattle.ny_warp.specs.Environment.{from_stop}
 use Rattle.ny_check.specs.Code.{Code}
-use Rattle.ny_heap.specs.Heap.{Reader, Waiting, Node, HeapState, node_at, input_at, live_of}
+use Rattle.ny_heap.specs.Heap.{Reader, Waiting, Node, HeapState, node_at, input_at, blocks_of, is_open as heap_open, live_of}
 use Rattle.ny_heap.specs.Steps.{IsSettledUnit}
 use Rattle.ny_heap.specs.Reach.{HeapLaws}
 use Rattle.ny_heap.proofs.WaitingMeans.{index_of_stop}
 use Rattle.ny_hands.specs.declared.branch.Branch.{Branch}
 use Rattle.ny_hands.specs.Hands.{marks_at}
 use Rattle.ny_hands.proofs.HandLemmas.{marks_there}
-use Rattle.ny_plan.specs.Kinds.{Resample}
+use Rattle.ny_plan.specs.Kinds.{UnitKind, Resample}
 use Rattle.ny_plan.specs.Rows.{RowSound, Input, Row, After, row_at, given, input, unit}
 use Rattle.ny_plan.specs.Units.{Part as MixPart, first, brought, next_part, parts_after, counted_from}
 use Rattle.ny_plan.specs.Plan.{part_of, made}
 use Rattle.ny_plan.specs.Need.{Filled, need, is_open, has_come}
 use Rattle.ny_plan.specs.Order.{AllRows}
-use Rattle.ny_plan.specs.Liveness.{live}
-use Rattle.ny_plan.specs.StandsFor.{ReadsFor, Keeps, KeepsPart, waiting_inputs, IsRoot, UnitMatches, Matches}
-use Rattle.ny_plan.proofs.LiveLemmas.{live_is}
+use Rattle.ny_plan.specs.Liveness.{live, live_of_kinds}
+use Rattle.ny_plan.specs.StandsFor.{ReadsFor, Keeps, KeepsPart, waiting_inputs, IsRoot, UnitMatches, Matches, kept_of_kinds}
+use Rattle.ny_plan.proofs.LiveLemmas.{live_is, kept_are_live}
 use Rattle.ny_plan.proofs.NeedLemmas.{reads-earlier}
 use Rattle.ny_walk.specs.Below.{IsSettled}
 use Rattle.ny_match.specs.Matched.{Seats, Part, IsPart, coming, Awaits, IsUnit, Matched}
@@ -202,3 +202,17 @@ matches code all f h seats settled m roots = record {
 -- as many of its blocks are taken as are live
 pub matched_live : (code : Code) (all : List Row) (f : Filled) (h : HeapState Branch) (seats : Seats) → HeapLaws h → IsSettled h → Matched code all f h seats → Roots all f h seats → AllRows all → live_of h ≡ live h.block all f
 matched_live code all f h seats laws settled m roots ordered = live_is Branch h.block all f h seats.row (matches code all f h seats settled m roots) laws (reads-earlier h.block all f ordered)
+
+-- and as many of its units of some kinds as are live of the rows of these kinds
+pub matched_by_kind : (counts : UnitKind → Bool) (code : Code) (all : List Row) (f : Filled) (h : HeapState Branch) (seats : Seats) → HeapLaws h → IsSettled h → Matched code all f h seats → Roots all f h seats → AllRows all → kept_of_kinds counts h 0 h.nodes ≡ live_of_kinds counts h.block all f
+matched_by_kind counts code all f h seats laws settled m roots ordered = kept_are_live Branch counts h.block all f h seats.row (matches code all f h seats settled m roots) laws (reads-earlier h.block all f ordered)
+
+-- a unit is open where its row is
+pub opened_as : (code : Code) (block : ℕ) (all : List Row) (seats : Seats) (u : ℕ) (x : Row) (done : ℕ) (unit : Node Branch) → IsUnit code block all seats u x done unit → heap_open block unit ≡ is_open block x done
+opened_as code block all seats u x done unit is = ap (λ n. nat_lt n (blocks_of block unit.timing.len)) is.filled ∙ ap (λ (t : Timing). nat_lt done (blocks_of block t.len)) is.timing
+
+-- exactly the inputs that an open unit was given have come
+pub matched_come : (code : Code) (all : List Row) (f : Filled) (h : HeapState Branch) (seats : Seats) → IsSettled h → Matched code all f h seats → (u k : ℕ) (unit : Node Branch) (i : Input) → node_at h u ≡ Some unit → heap_open h.block unit ≡ true → slice_get (row_at all (seats.row u)).inputs k ≡ Some i → has_come h.block (slice_index f (seats.row u)) i ≡ nat_lt k (length unit.inputs)
+matched_come code all f h seats settled m u k unit i there opened at =
+    let is = m.units u unit there in
+    settled_come code h.block all seats u (row_at all (seats.row u)) (slice_index f (seats.row u)) unit is (settled u unit there) (sym (opened_as code h.block all seats u (row_at all (seats.row u)) (slice_index f (seats.row u)) unit is) ∙ opened) k i at

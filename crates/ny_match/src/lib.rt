@@ -2,3 +2,7 @@
 //!
 //! The rules stand in `docs/DEFINITIONS.md`, "The match".
 #![tactic(auto)]
+
+mod fills;
+
+pub use fills::fill_laws;
