@@ -1,3 +1,4 @@
 pub mod FillLemmas
 pub mod LiveLemmas
 pub mod QuietLemmas
+pub mod LastRowLemmas

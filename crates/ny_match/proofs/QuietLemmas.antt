@@ -68,7 +68,7 @@ pub quiet_each : {A C : Type 0} (step : A → Step C) (xs : List A) → AllByRec
 quiet_each {A} {C} step [] q = quiet_given {A = List C} []
 quiet_each {A} {C} step (x ∷ xs) q = quiet_then (step x) (λ b. and_then (each step xs) (λ bs. given (b ∷ bs))) q.0 (λ b. quiet_then (each step xs) (λ bs. given (b ∷ bs)) (quiet_each step xs q.1) (λ bs. quiet_given (b ∷ bs)))
 
-quiet_all : {A C : Type 0} (step : A → Step C) (xs : List A) → ((x : A) → IsQuiet (step x)) → AllByRecursion (λ x. IsQuiet (step x)) xs
+pub quiet_all : {A C : Type 0} (step : A → Step C) (xs : List A) → ((x : A) → IsQuiet (step x)) → AllByRecursion (λ x. IsQuiet (step x)) xs
 quiet_all step [] q = tt
 quiet_all step (x ∷ xs) q = (q x, quiet_all step xs q)
 

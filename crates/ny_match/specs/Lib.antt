@@ -3,3 +3,4 @@ pub mod Born
 pub mod Roots
 pub mod Counting
 pub mod Walking
+pub mod Channels
