@@ -1,11 +1,12 @@
 -- Where sounds read the channels, the channels alone are read from outside.
-use Rattle.std.proofs.Common.{◌≡◌, ◌≢◌, ◌⊎◌, inl, inr, ℕ, zero, suc, ◌+◌, ◌*◌, ◌/◌, ◌<◌, ◌≤◌, min, Bool, true, false, nat_lt, IsTrue, List, [], ◌∷◌, length, sum, Option, None, Some, slice_get, refl, sym, ap, subst, ◌∙◌, arith}
+use Rattle.std.proofs.Common.{◌≡◌, ◌≢◌, ◌⊎◌, inl, inr, ℕ, zero, suc, ◌+◌, ◌-◌, ◌*◌, ◌/◌, ◌<◌, ◌≤◌, min, Bool, true, false, nat_lt, IsTrue, List, [], ◌∷◌, length, sum, Option, None, Some, slice_get, refl, sym, ap, subst, ◌∙◌, arith}
 use Rattle.std.specs.Prelude.{slice_index, slice_set}
 use Rattle.std.specs.Option.{option_map}
-use Rattle.std.proofs.lemmas.Bool.{cases_lt, cases_eq, true≢false}
+use Rattle.std.proofs.lemmas.Bool.{cases_lt, cases_eq, lt-ltb, le-ltb, true≢false}
 use Rattle.std.proofs.lemmas.List.{get_or_past, get_or-set_other}
 use Rattle.std.proofs.lemmas.Option.{slice_get_within}
-use Rattle.std.proofs.Math.Nat.{mul-div_left}
+use Rattle.std.proofs.Math.Nat.{mul-div_left, div-lt_iff_lt-mul, suc-mul}
+use Rattle.std.proofs.lemmas.Nat.{le-div}
 use Rattle.ny_list.proofs.IndexLemmas.{same_some, none_some, sum_set}
 use Rattle.ny_heap.specs.declared.sound.Sound.{Sound}
 use Rattle.ny_heap.specs.Heap.{Node, HeapState, node_at, list_of, place_of, blocks_of, stands_in}
@@ -91,3 +92,14 @@ channel_stands h s n pulls unit some there list held shown only place less = (he
       | inl e ↦ e
       | inr other ↦ absurd (omega (arith, two_marks unit.outside j pulls other, mark, more, marks_there h n unit j there, only))
     ]
+
+-- a row has a block left exactly where its filled ones do not reach its end
+pub opens_before : (block done : ℕ) (x : Row) → 0 < block → is_open block x done ≡ nat_lt (done * block) x.timing.len
+opens_before block done x some = elim (cases_lt (done * block) x.timing.len) [
+  | inl less ↦
+      lt-ltb done (blocks_of block x.timing.len) (omega (arith, le-div (done + 1) (x.timing.len + (block - 1)) block some (omega (arith, less, some, suc-mul done block))))
+      ∙ sym (lt-ltb (done * block) x.timing.len less)
+  | inr all ↦
+      le-ltb done (blocks_of block x.timing.len) (omega (arith, (div-lt_iff_lt-mul {k = block} {x = x.timing.len + (block - 1)} {y = done + 1} some).1 (omega (arith, all, some, suc-mul done block))))
+      ∙ sym (le-ltb (done * block) x.timing.len all)
+]

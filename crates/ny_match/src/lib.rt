@@ -3,6 +3,8 @@
 //! The rules stand in `docs/DEFINITIONS.md`, "The match".
 #![tactic(auto)]
 
+mod channels;
 mod fills;
 
+pub use channels::channel_laws;
 pub use fills::fill_laws;
