@@ -1,5 +1,5 @@
 -- One block more of a unit is one block more of its row.
-use Rattle.std.proofs.Common.{◌≡◌, ◌≢◌, ◌⊎◌, inl, inr, ℕ, zero, suc, ◌+◌, ◌*◌, ◌<◌, ◌≤◌, Bool, true, false, cond, nat_lt, List, [], ◌∷◌, length, map, drop, get_or, Option, None, Some, slice_get, refl, sym, ap, subst, ◌∙◌, arith}
+use Rattle.std.proofs.Common.{◌≡◌, ◌≢◌, inl, inr, ℕ, zero, suc, ◌+◌, ◌*◌, ◌<◌, ◌≤◌, Bool, true, false, cond, nat_lt, List, [], ◌∷◌, length, map, drop, get_or, Option, None, Some, slice_get, refl, sym, ap, subst, ◌∙◌, arith}
 use Rattle.std.specs.Prelude.{slice_index, slice_set}
 use Rattle.std.specs.List.{AllZip}
 use Rattle.std.proofs.lemmas.Bool.{cases_eq, lt-ltb, ltb-true}
@@ -17,8 +17,7 @@ use Rattle.ny_plan.specs.StandsFor.{unit_kind, ReadsFor, Keeps}
 use Rattle.ny_plan.proofs.NeedLemmas.{need-rises}
 use Rattle.ny_plan.proofs.StandsLemmas.{taken_alike}
 use Rattle.ny_hands.proofs.OptionLemmas.{same_at}
-use Rattle.ny_walk.specs.Walk.{FillTurn}
-use Rattle.ny_match.specs.Matched.{Seats, IsPart, coming, Awaits, IsUnit, Matched}
+use Rattle.ny_match.specs.Matched.{Seats, IsPart, Awaits, IsUnit, Matched}
 
 -- ---- what a unit takes of an input is what its row needs
 
@@ -42,13 +41,12 @@ moved_from block done x (Some s) r e = by_more (nat_lt (taken_after block x.kind
 
 -- an input with more to read is left
 moved_on : {B : Type 0} (block done : ℕ) (x : Node B) (s : Reader) → taken_after block x.kind x.timing s.timing done < s.timing.len → (r : Reader) × (moved block x done (Some s) ≡ Some r) × (r.node ≡ s.node) × (r.timing ≡ s.timing)
-moved_on block done x s more =
-    (
-      record s { place = taken_after block x.kind x.timing s.timing done },
-      ap (λ b. cond b (Some (record s { place = taken_after block x.kind x.timing s.timing done })) None) (lt-ltb (taken_after block x.kind x.timing s.timing done) s.timing.len more),
-      refl,
-      refl,
-    )
+moved_on block done x s more = (
+  record s { place = taken_after block x.kind x.timing s.timing done },
+  ap (λ b. cond b (Some (record s { place = taken_after block x.kind x.timing s.timing done })) None) (lt-ltb (taken_after block x.kind x.timing s.timing done) s.timing.len more),
+  refl,
+  refl,
+)
 
 abbrev opens : {B : Type 0} → ℕ → Node B → Bool
 opens block x = nat_lt (x.filled + 1) (blocks_of block x.timing.len)
@@ -87,7 +85,7 @@ awaits_as code all seats u x unit later at next stop waits same w = record {
   rate = w.rate;
   are = subst (λ ws. AllZip (IsPart seats.row w.env) ws w.parts) (sym waits) w.are;
   keep = subst (λ ws. AllZip (λ p (i : Input). AllZip (Keeps seats.row) (Waiting.captured p) i.captured) ws (drop next x.inputs)) (sym waits)
-  (subst (λ n. AllZip (λ p (i : Input). AllZip (Keeps seats.row) (Waiting.captured p) i.captured) unit.waiting (drop n x.inputs)) (sym same) w.keep);
+      (subst (λ n. AllZip (λ p (i : Input). AllZip (Keeps seats.row) (Waiting.captured p) i.captured) unit.waiting (drop n x.inputs)) (sym same) w.keep);
 }
 
 still_open : (block : ℕ) (x : Row) (done : ℕ) → is_open block x (done + 1) ≡ true → is_open block x done ≡ true
@@ -127,12 +125,11 @@ module _ (code : Code) (block : ℕ) (all : List Row) (seats : Seats) (u : ℕ) 
 
   filled_awaits : is_open block x (done + 1) ≡ true → (stop : ℕ) × (unit.pending ≡ 0 → stop ≡ unit.last_stop) × Awaits code all seats u x (filled_node block memory unit) (length (filled_node block memory unit).inputs + unit.pending) stop
   filled_awaits opened =
-      let w = is.awaits (still_open block x done opened) in
-      (
+      let w = is.awaits (still_open block x done opened) in (
         w.0,
         w.1,
         awaits_as code all seats u x unit (filled_node block memory unit) (length unit.inputs + unit.pending) (length (filled_node block memory unit).inputs + unit.pending) w.0
-        (ap (λ b. cond b unit.waiting []) (sym opens_as ∙ opened)) (ap (λ n. n + unit.pending) (as_many block memory unit)) w.2,
+            (ap (λ b. cond b unit.waiting []) (sym opens_as ∙ opened)) (ap (λ n. n + unit.pending) (as_many block memory unit)) w.2,
       )
 
   -- with one block more it is its row with one block more

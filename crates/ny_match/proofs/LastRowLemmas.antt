@@ -1,6 +1,5 @@
 -- The channels are the last rows of a plan, and they alone are channels.
-use Rattle.std.proofs.Common.{◌≡◌, ◌⊎◌, inl, inr, ℕ, zero, suc, ◌+◌, ◌<◌, ◌≤◌, Bool, true, false, cond, nat_eq, List, [], ◌∷◌, ◌++◌, length, Option, None, Some, slice_get, refl, sym, ap, subst, ◌∙◌, arith}
-use Rattle.std.specs.List.{AllByRecursion}
+use Rattle.std.proofs.Common.{◌≡◌, ◌⊎◌, inl, inr, ℕ, zero, suc, ◌+◌, ◌<◌, ◌≤◌, Bool, true, false, cond, nat_eq, List, [], ◌∷◌, ◌++◌, length, Option, None, Some, slice_get, refl, sym, ap, ◌∙◌, arith}
 use Rattle.std.proofs.lemmas.Bool.{cases_lt, cases_eq, true≢false}
 use Rattle.std.proofs.lemmas.Bool.Decides.{eqb_tells}
 use Rattle.std.proofs.lemmas.List.{get_or_append_left, get_or_past}
@@ -21,7 +20,6 @@ use Rattle.ny_plan.specs.Liveness.{is_channel}
 use Rattle.ny_plan.specs.Order.{IsBelow}
 use Rattle.ny_plan.proofs.NeedLemmas.{item_of}
 use Rattle.ny_plan.proofs.ChannelLemmas.{AreFrom, AreLast, plan-channels}
-use Rattle.ny_match.specs.Walking.{ChannelsFrom}
 use Rattle.ny_match.specs.Channels.{IsChannelRow, HasChannels}
 use Rattle.ny_match.proofs.QuietLemmas.{NoChannels, quiet_none, quiet_brought, quiet_each, quiet_all, all_played_quiet}
 

@@ -15,7 +15,7 @@ use Rattle.ny_num.proofs.RateLaws.{same_rate}
 use Rattle.ny_warp.specs.declared.env.Env.{Env}
 use Rattle.ny_warp.specs.Environment.{from_stop}
 use Rattle.ny_check.specs.Code.{Code}
-use Rattle.ny_heap.specs.Heap.{Reader, Waiting, Node, HeapState, node_at, input_at, blocks_of, is_open as heap_open, live_of}
+use Rattle.ny_heap.specs.Heap.{Reader, Node, HeapState, node_at, blocks_of, is_open as heap_open, live_of}
 use Rattle.ny_heap.specs.Steps.{IsSettledUnit}
 use Rattle.ny_heap.specs.Reach.{HeapLaws}
 use Rattle.ny_heap.proofs.WaitingMeans.{index_of_stop}
@@ -26,10 +26,10 @@ use Rattle.ny_plan.specs.Kinds.{UnitKind, Resample}
 use Rattle.ny_plan.specs.Rows.{RowSound, Input, Row, After, row_at, given, input, unit}
 use Rattle.ny_plan.specs.Units.{Part as MixPart, first, brought, next_part, parts_after, counted_from}
 use Rattle.ny_plan.specs.Plan.{part_of, made}
-use Rattle.ny_plan.specs.Need.{Filled, need, is_open, has_come}
+use Rattle.ny_plan.specs.Need.{Filled, is_open, has_come}
 use Rattle.ny_plan.specs.Order.{AllRows}
 use Rattle.ny_plan.specs.Liveness.{live, live_of_kinds}
-use Rattle.ny_plan.specs.StandsFor.{ReadsFor, Keeps, KeepsPart, waiting_inputs, IsRoot, UnitMatches, Matches, kept_of_kinds}
+use Rattle.ny_plan.specs.StandsFor.{KeepsPart, waiting_inputs, UnitMatches, Matches, kept_of_kinds}
 use Rattle.ny_plan.proofs.LiveLemmas.{live_is, kept_are_live}
 use Rattle.ny_plan.proofs.NeedLemmas.{reads-earlier}
 use Rattle.ny_walk.specs.Below.{IsSettled}

@@ -1,5 +1,5 @@
 -- Evaluation makes no channel: all rows before those of the channels are of other kinds.
-use Rattle.std.proofs.Common.{◌≡◌, ◌≢◌, ◌⊎◌, inl, inr, ℕ, zero, suc, ◌*◌, ◌<◌, ◌≤◌, Bool, true, false, cond, nat_eq, List, [], ◌∷◌, ◌++◌, map, zip, length, Option, None, Some, refl, sym, ap, subst, ◌∙◌, arith, ℤ, pos}
+use Rattle.std.proofs.Common.{◌≡◌, ◌≢◌, ◌⊎◌, inl, inr, ℕ, ◌*◌, ◌≤◌, Bool, true, false, cond, nat_eq, List, [], ◌∷◌, ◌++◌, map, zip, length, None, refl, ap, ◌∙◌, arith, ℤ, pos}
 use Rattle.std.specs.List.{AllByRecursion, range_with_len}
 use Rattle.std.proofs.lemmas.Bool.{cases_lt, cases_eq}
 use Rattle.std.proofs.lemmas.List.{get_or_append_left, get_or_past}
@@ -36,14 +36,13 @@ use Rattle.ny_check.specs.declared.value.Scalar.TheVariants as scalar
 use Rattle.ny_check.specs.declared.value.Value.{Value}
 use Rattle.ny_check.specs.declared.value.Value.TheVariants.{Number, Sound}
 use Rattle.ny_check.specs.Code.{Code, node_at, function_at}
-use Rattle.ny_check.specs.Recursion.{by_smaller}
 use Rattle.ny_check.specs.Behaviours.{is_one, cue_timing}
 use Rattle.ny_check.specs.Families.{pair_timing, leaf_time, leaf_sound, effect_sound, changed_env}
 use Rattle.ny_plan.specs.Kinds.{UnitKind, Mix, Sub, Mul, Resample, kind_of_op}
 use Rattle.ny_plan.specs.Kinds.{kind_of_generator, kind_of_effect}
 use Rattle.ny_plan.specs.Rows.{RowSound, Input, Row, Step, After, row_at, no_row, given, and_then, each, shown, silent, input, unit}
 use Rattle.ny_plan.specs.Units.{first, second, leaf_by, row_over, brought, paired, negated, cued, Part, parts_together, coming, next_part, parts_after, parts_in_turn, parts_in, counted_from, mixed}
-use Rattle.ny_plan.specs.Plan.{Names, Makes, sound_in, value_by, value_of, names_after, part_of, repeated_parts, number, made_at, made, operand, played_at, played}
+use Rattle.ny_plan.specs.Plan.{Names, Makes, value_by, value_of, names_after, part_of, repeated_parts, number, made_at, made, operand, played_at, played}
 use Rattle.ny_plan.specs.Liveness.{is_channel}
 use Rattle.ny_plan.proofs.OrderLemmas.{by_smaller-all}
 

@@ -1,10 +1,10 @@
 -- What is read of a matched heap, or given up, leaves each unit the row that it was.
-use Rattle.std.proofs.Common.{◌≡◌, ℕ, ◌+◌, ◌-◌, List, Some, sym, ◌∙◌}
+use Rattle.std.proofs.Common.{◌+◌, ◌-◌, List, ◌∙◌}
 use Rattle.ny_check.specs.Code.{Code}
 use Rattle.ny_heap.specs.declared.sound.Sound.{Sound}
-use Rattle.ny_heap.specs.Heap.{Node, HeapState, node_at, list_of, place_of}
+use Rattle.ny_heap.specs.Heap.{HeapState, list_of, place_of}
 use Rattle.ny_heap.specs.Reach.{IsTrimmed}
-use Rattle.ny_heap.specs.Steps.{with_sound, without_sound, advanced}
+use Rattle.ny_heap.specs.Steps.{without_sound, advanced}
 use Rattle.ny_hands.specs.declared.branch.Branch.{Branch}
 use Rattle.ny_hands.proofs.MarkLemmas.{AreLike, alike_more, marked_like}
 use Rattle.ny_plan.specs.Rows.{Row}
