@@ -5,3 +5,8 @@ pub mod QuietLemmas
 pub mod LastRowLemmas
 pub mod RootLemmas
 pub mod ReadLemmas
+pub mod OrderLemmas
+pub mod CountingLemmas
+pub mod WantedLemmas
+pub mod WalkLemmas
+pub mod WholeLemmas
