@@ -1,4 +1,8 @@
+pub mod GrowLemmas
 pub mod SeatLemmas
+pub mod BornLemmas
+pub mod UnitLemmas
+pub mod NextLemmas
 pub mod FillLemmas
 pub mod LiveLemmas
 pub mod QuietLemmas
