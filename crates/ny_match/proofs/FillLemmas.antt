@@ -72,7 +72,7 @@ as_many block memory x = length-map x.inputs (cond (opens block x) (moved block 
 -- ---- the unit
 
 -- the same parts wait
-awaits_as : (code : Code) (all : List Row) (seats : Seats) (u : ℕ) (x : Row) (unit later : Node Branch) (at next stop : ℕ) → later.waiting ≡ unit.waiting → next ≡ at → Awaits code all seats u x unit at stop → Awaits code all seats u x later next stop
+pub awaits_as : (code : Code) (all : List Row) (seats : Seats) (u : ℕ) (x : Row) (unit later : Node Branch) (at next stop : ℕ) → later.waiting ≡ unit.waiting → next ≡ at → Awaits code all seats u x unit at stop → Awaits code all seats u x later next stop
 awaits_as code all seats u x unit later at next stop waits same w = record {
   env = w.env;
   parts = w.parts;
@@ -146,7 +146,7 @@ module _ (code : Code) (block : ℕ) (all : List Row) (seats : Seats) (u : ℕ) 
   }
 
 -- the same unit, told in other words
-unit_as : (code : Code) (block now : ℕ) (all : List Row) (seats : Seats) (u v done later : ℕ) (x y : Node Branch) → block ≡ now → u ≡ v → done ≡ later → x ≡ y → IsUnit code block all seats u (row_at all (seats.row u)) done x → IsUnit code now all seats v (row_at all (seats.row v)) later y
+pub unit_as : (code : Code) (block now : ℕ) (all : List Row) (seats : Seats) (u v done later : ℕ) (x y : Node Branch) → block ≡ now → u ≡ v → done ≡ later → x ≡ y → IsUnit code block all seats u (row_at all (seats.row u)) done x → IsUnit code now all seats v (row_at all (seats.row v)) later y
 unit_as code block now all seats u v done later x y size number blocks same is =
     subst (λ b. IsUnit code b all seats v (row_at all (seats.row v)) later y) size
     (subst (λ w. IsUnit code block all seats w (row_at all (seats.row w)) later y) number

@@ -14,3 +14,4 @@ pub mod CountingLemmas
 pub mod WantedLemmas
 pub mod WalkLemmas
 pub mod WholeLemmas
+pub mod RevealLemmas
