@@ -13,7 +13,8 @@ use Rattle.ny_heap.specs.Steps.{Fills, filled_node, moved}
 use Rattle.ny_hands.specs.declared.branch.Branch.{Branch}
 use Rattle.ny_plan.specs.Rows.{Input, Row, row_at}
 use Rattle.ny_plan.specs.Need.{Filled, takes_as, need, blocks_in, is_open, has_come}
-use Rattle.ny_plan.specs.StandsFor.{unit_kind, ReadsFor, Keeps}
+use Rattle.ny_heap.specs.Kinds.{unit_kind}
+use Rattle.ny_plan.specs.StandsFor.{ReadsFor, Keeps}
 use Rattle.ny_plan.proofs.NeedLemmas.{need-rises}
 use Rattle.ny_plan.proofs.StandsLemmas.{taken_alike}
 use Rattle.ny_hands.proofs.OptionLemmas.{same_at}

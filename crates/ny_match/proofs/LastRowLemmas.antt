@@ -12,7 +12,7 @@ use Rattle.ny_num.specs.Sound as sounds
 use Rattle.ny_num.specs.Mix.{channel_timing, channel}
 use Rattle.ny_warp.specs.Environment.{opening}
 use Rattle.ny_check.specs.Code.{Code}
-use Rattle.ny_plan.specs.Kinds.{Channel}
+use Rattle.ny_heap.specs.Kinds.{Channel}
 use Rattle.ny_plan.specs.Rows.{RowSound, Input, Row, Plan, After, row_at, no_row, each, input}
 use Rattle.ny_plan.specs.Units.{first, brought, channel_row}
 use Rattle.ny_plan.specs.Plan.{played, plan}

@@ -15,3 +15,16 @@ pub mod KeptLemmas
 pub mod TimesLemmas
 pub mod SeqLemmas
 pub mod TurnLemmas
+pub mod KindLemmas
+pub mod FillLemmas
+pub mod LiveLemmas
+pub mod QuietLemmas
+pub mod LastRowLemmas
+pub mod RootLemmas
+pub mod ReadLemmas
+pub mod OrderLemmas
+pub mod CountingLemmas
+pub mod WantedLemmas
+pub mod WalkLemmas
+pub mod WholeLemmas
+pub mod RevealLemmas

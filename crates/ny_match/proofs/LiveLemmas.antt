@@ -22,14 +22,15 @@ use Rattle.ny_heap.proofs.WaitingMeans.{index_of_stop}
 use Rattle.ny_hands.specs.declared.branch.Branch.{Branch}
 use Rattle.ny_hands.specs.Hands.{marks_at}
 use Rattle.ny_hands.proofs.HandLemmas.{marks_there}
-use Rattle.ny_plan.specs.Kinds.{UnitKind, Resample}
+use Rattle.ny_heap.specs.Kinds.{UnitKind, Resample}
 use Rattle.ny_plan.specs.Rows.{RowSound, Input, Row, After, row_at, given, input, unit}
 use Rattle.ny_plan.specs.Units.{Part as MixPart, first, brought, next_part, parts_after, counted_from}
 use Rattle.ny_plan.specs.Plan.{part_of, made}
 use Rattle.ny_plan.specs.Need.{Filled, is_open, has_come}
 use Rattle.ny_plan.specs.Order.{AllRows}
 use Rattle.ny_plan.specs.Liveness.{live, live_of_kinds}
-use Rattle.ny_plan.specs.StandsFor.{KeepsPart, waiting_inputs, UnitMatches, Matches, kept_of_kinds}
+use Rattle.ny_heap.specs.Kinds.{kept_of_kinds}
+use Rattle.ny_plan.specs.StandsFor.{KeepsPart, waiting_inputs, UnitMatches, Matches}
 use Rattle.ny_plan.proofs.LiveLemmas.{live_is, kept_are_live}
 use Rattle.ny_plan.proofs.NeedLemmas.{reads-earlier}
 use Rattle.ny_walk.specs.Below.{IsSettled}

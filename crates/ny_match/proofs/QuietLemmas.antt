@@ -38,8 +38,8 @@ use Rattle.ny_check.specs.declared.value.Value.TheVariants.{Number, Sound}
 use Rattle.ny_check.specs.Code.{Code, node_at, function_at}
 use Rattle.ny_check.specs.Behaviours.{is_one, cue_timing}
 use Rattle.ny_check.specs.Families.{pair_timing, leaf_time, leaf_sound, effect_sound, changed_env}
-use Rattle.ny_plan.specs.Kinds.{UnitKind, Mix, Sub, Mul, Resample, kind_of_op}
-use Rattle.ny_plan.specs.Kinds.{kind_of_generator, kind_of_effect}
+use Rattle.ny_heap.specs.Kinds.{UnitKind, Mix, Sub, Mul, Resample, kind_of_op}
+use Rattle.ny_hands.specs.Kinds.{kind_of_generator, kind_of_effect}
 use Rattle.ny_plan.specs.Rows.{RowSound, Input, Row, Step, After, row_at, no_row, given, and_then, each, shown, silent, input, unit}
 use Rattle.ny_plan.specs.Units.{first, second, leaf_by, row_over, brought, paired, negated, cued, Part, parts_together, coming, next_part, parts_after, parts_in_turn, parts_in, counted_from, mixed}
 use Rattle.ny_plan.specs.Plan.{Names, Makes, value_by, value_of, names_after, part_of, repeated_parts, number, made_at, made, operand, played_at, played}

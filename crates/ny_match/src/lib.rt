@@ -1,9 +1,12 @@
-//! While a program is played the units of a heap are the rows of its plan, with as many blocks filled and read as far. Here it is said of
-//! each step of a run. It is laws of definitions: no code runs by it.
+//! The units of a heap are the rows of a plan: laws of evaluation, of fills, of parts that fall due, and of walks.
 //!
-//! The rules stand in `docs/DEFINITIONS.md`, "Units and rows".
+//! The rules stand in `docs/DEFINITIONS.md`, "The match".
 #![tactic(auto)]
 
+mod channels;
 mod evaluates;
+mod fills;
 
-pub use evaluates::evaluation_law;
+pub use channels::channel_laws;
+pub use evaluates::evaluation_laws;
+pub use fills::fill_laws;
