@@ -14,7 +14,7 @@ use Rattle.ny_units.specs.declared.leaves.Leaf.{Leaf as LeafOf}
 use Rattle.ny_units.specs.declared.leaves.Leaf.TheVariants.{Const, Osc, HzOsc, Noise, Ramp, Lfo}
 use Rattle.ny_units.specs.Playing.{leaf_value}
 use Rattle.ny_heap.specs.Heap.{Made, HeapState}
-use Rattle.ny_heap.specs.Kinds.{kind_of_leaf}
+use Rattle.ny_heap.specs.Kinds.{UnitKind, kind_of_leaf}
 use Rattle.ny_heap.specs.declared.make.Make.TheVariants.{Leaf}
 use Rattle.ny_heap.specs.declared.sound.Sound.{Sound}
 use Rattle.ny_hands.specs.declared.branch.Branch.{Branch}
@@ -102,8 +102,8 @@ pub by_row : (g row : Generator) (env : Env) (ns : List ℤ) (t : Timing) (l : L
 by_row g row env ns t l is when gives = gives (when ∙ ap (λ x. leaf_time x env ns) is) ∙ ap (λ x. leaf_sound x env ns) (sym is)
 
 -- and it is of the row's kind
-pub kind_by_row : (g row : Generator) (l : LeafOf) → g ≡ row → IsOfKind (kind_of_generator row) (kind_of_leaf l) → IsOfKind (kind_of_generator g) (kind_of_leaf l)
-kind_by_row g row l is kind = subst (λ w. IsOfKind (kind_of_generator w) (kind_of_leaf l)) (sym is) kind
+pub kind_by_row : (g row : Generator) (k : UnitKind) → g ≡ row → IsOfKind (kind_of_generator row) k → IsOfKind (kind_of_generator g) k
+kind_by_row g row k is kind = subst (λ w. IsOfKind (kind_of_generator w) k) (sym is) kind
 
 -- the unit of a leaf of these numbers
 pub leaf_turn : (old new : HeapState Branch) (g : Generator) (env : Env) (timed seen ns : List ℤ) (t : Timing) (l : LeafOf) (s : Sound) → timed ≡ ns → seen ≡ ns → t ≡ leaf_time g env timed → leaves.leaf t (leaf_value l) ≡ leaf_sound g env seen → IsOfKind (kind_of_generator g) (kind_of_leaf l) → MakesUnit old new (Made (Leaf l)) t [] [] [] s → LeafTurn g env ns old new s

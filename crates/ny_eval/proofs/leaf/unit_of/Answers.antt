@@ -2,6 +2,7 @@ use Rattle.std.proofs.Common.{refl, ap, ◌∙◌}
 use Rattle.ny_num.specs.Leaves.{increment, key_hz}
 use Rattle.ny_check.specs.declared.node.Generator.TheVariants as generator
 use Rattle.ny_check.specs.Families.{leaf_time, number_at}
+use Rattle.ny_heap.specs.Kinds as kind
 use Rattle.ny_eval.proofs.EnvelopeLemmas.{envelope_heard, envelope_is}
 use Rattle.ny_eval.proofs.LeafLemmas.{constant_is, osc_is, hzosc_is, noise_is, rest_is, ramp_is, lfo_is, by_row, kind_by_row}
 use Rattle.ny_eval.proofs.leaf.unit_of.Goals as goal
@@ -63,25 +64,25 @@ returns-in_ok-knots-in-Pwl-clause-heard c =
 -- ---- kinds
 
 pub returns-in-Const-clause-kind : goal.returns-in-Const-clause-kind
-returns-in-Const-clause-kind c = kind_by_row c.args.generator generator.Const _ c.in-Const.is refl
+returns-in-Const-clause-kind c = kind_by_row c.args.generator generator.Const kind.Const c.in-Const.is refl
 
 pub returns-in-Osc-clause-kind : goal.returns-in-Osc-clause-kind
-returns-in-Osc-clause-kind c = kind_by_row c.args.generator generator.Osc _ c.in-Osc.is refl
+returns-in-Osc-clause-kind c = kind_by_row c.args.generator generator.Osc kind.Osc c.in-Osc.is refl
 
 pub returns-in-HzOsc-clause-kind : goal.returns-in-HzOsc-clause-kind
-returns-in-HzOsc-clause-kind c = kind_by_row c.args.generator generator.HzOsc _ c.in-HzOsc.is refl
+returns-in-HzOsc-clause-kind c = kind_by_row c.args.generator generator.HzOsc kind.HzOsc c.in-HzOsc.is refl
 
 pub returns-in-Lfo-clause-kind : goal.returns-in-Lfo-clause-kind
-returns-in-Lfo-clause-kind c = kind_by_row c.args.generator generator.Lfo _ c.in-Lfo.is refl
+returns-in-Lfo-clause-kind c = kind_by_row c.args.generator generator.Lfo kind.Lfo c.in-Lfo.is refl
 
 pub returns-in-Noise-clause-kind : goal.returns-in-Noise-clause-kind
-returns-in-Noise-clause-kind c = kind_by_row c.args.generator generator.Noise _ c.in-Noise.is refl
+returns-in-Noise-clause-kind c = kind_by_row c.args.generator generator.Noise kind.Noise c.in-Noise.is refl
 
 pub returns-in-Rest-clause-kind : goal.returns-in-Rest-clause-kind
-returns-in-Rest-clause-kind c = kind_by_row c.args.generator generator.Rest _ c.in-Rest.is tt
+returns-in-Rest-clause-kind c = kind_by_row c.args.generator generator.Rest kind.Const c.in-Rest.is tt
 
 pub returns-in-Ramp-clause-kind : goal.returns-in-Ramp-clause-kind
-returns-in-Ramp-clause-kind c = kind_by_row c.args.generator generator.Ramp _ c.in-Ramp.is refl
+returns-in-Ramp-clause-kind c = kind_by_row c.args.generator generator.Ramp kind.Ramp c.in-Ramp.is refl
 
 pub returns-in_ok-knots-in-Pwl-clause-kind : goal.returns-in_ok-knots-in-Pwl-clause-kind
-returns-in_ok-knots-in-Pwl-clause-kind c = kind_by_row c.args.generator generator.Pwl _ c.in-Pwl.is refl
+returns-in_ok-knots-in-Pwl-clause-kind c = kind_by_row c.args.generator generator.Pwl kind.Pwl c.in-Pwl.is refl
