@@ -15,3 +15,4 @@ pub mod WantedLemmas
 pub mod WalkLemmas
 pub mod WholeLemmas
 pub mod RevealLemmas
+pub mod AsksLemmas

@@ -4,3 +4,4 @@ pub mod Roots
 pub mod Counting
 pub mod Walking
 pub mod Channels
+pub mod Keeps
