@@ -16,3 +16,4 @@ pub mod WalkLemmas
 pub mod WholeLemmas
 pub mod RevealLemmas
 pub mod AsksLemmas
+pub mod AskedLemmas
