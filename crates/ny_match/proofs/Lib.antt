@@ -28,3 +28,5 @@ pub mod WantedLemmas
 pub mod WalkLemmas
 pub mod WholeLemmas
 pub mod RevealLemmas
+pub mod AsksLemmas
+pub mod AskedLemmas

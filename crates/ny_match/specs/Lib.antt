@@ -5,3 +5,4 @@ pub mod Counting
 pub mod Walking
 pub mod Keeps
 pub mod Channels
+pub mod Keeps
