@@ -28,7 +28,7 @@ use Rattle.ny_check.proofs.Smaller.{below-at, by_smaller-is}
 use Rattle.ny_check.proofs.Agreeing.{agree_left, agree_right, agree_push, agree_scalars}
 use Rattle.ny_check.proofs.FreeNames.{scalar-same}
 use Rattle.ny_check.proofs.OperatorNodes.{waiting}
-use Rattle.ny_plan.specs.Kinds.{kind_of_effect}
+use Rattle.ny_hands.specs.Kinds.{kind_of_effect}
 use Rattle.ny_plan.specs.Rows.{RowSound, Step, given, and_then, each, silent, input}
 use Rattle.ny_plan.specs.Units.{Part, leaf_made, row_over, brought, paired, negated, cued, parts_in, parts_together, mixed}
 use Rattle.ny_plan.specs.Plan.{Names, Makes, sound_in, value_by, value_of, names_after, sounds_of, captured, part_of, repeated_parts, number, made_at, made}

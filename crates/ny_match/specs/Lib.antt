@@ -5,4 +5,3 @@ pub mod Counting
 pub mod Walking
 pub mod Keeps
 pub mod Channels
-pub mod Keeps

@@ -6,7 +6,9 @@
 mod channels;
 mod evaluates;
 mod fills;
+mod keeps;
 
 pub use channels::channel_laws;
 pub use evaluates::evaluation_laws;
 pub use fills::fill_laws;
+pub use keeps::kept_law;
