@@ -1,37 +1,22 @@
 -- What an evaluation leaves, step by step: the units that it makes are the rows that the plan makes.
-use Rattle.std.proofs.Common.{◌≡◌, ◌≢◌, ◌⊎◌, inl, inr, ℕ, zero, suc, ◌+◌, ◌-◌, ◌<◌, ◌≤◌, nat_eq, nat_lt, Bool, true, false, cond, if◌then◌else◌, List, [], ◌∷◌, ◌++◌, map, drop, length, get_or, slice_get, slice_index, Option, None, Some, refl, sym, ap, subst, ◌∙◌, arith, ℤ}
-use Rattle.std.specs.Option.{option_map}
-use Rattle.std.proofs.lemmas.Bool.{cases_eq, lt-ltb}
-use Rattle.std.proofs.lemmas.Bool.Decides.{eqb_tells}
-use Rattle.std.proofs.Math.Seq.{get_or-append_seam}
-use Rattle.std.proofs.Math.ListN.{length-append}
-use Rattle.ny_num.specs.declared.rate.Rate.{Rate}
-use Rattle.ny_num.specs.declared.timing.Timing.{Timing}
-use Rattle.ny_num.specs.Sound as sounds
-use Rattle.ny_warp.specs.declared.env.Env.{Env}
-use Rattle.ny_warp.specs.Environment.{opening}
+use Rattle.std.proofs.Common.{◌≡◌, ◌≢◌, ◌⊎◌, inl, inr, ℕ, ◌<◌, ◌≤◌, List, length, slice_index, Option, None, Some, refl, sym, ap, subst, ◌∙◌, arith}
+use Rattle.std.proofs.lemmas.Bool.{cases_eq}
 use Rattle.ny_check.specs.Code.{Code}
 use Rattle.ny_heap.specs.declared.sound.Sound.{Sound}
-use Rattle.ny_heap.specs.Heap.{Reader, Kind, Node, Waiting, HeapState, node_at, input_at, list_of, place_of}
+use Rattle.ny_heap.specs.Heap.{Node, HeapState, node_at}
 use Rattle.ny_heap.specs.Reach.{HeapLaws}
-use Rattle.ny_heap.specs.Steps.{without_sounds, AddsNode, new_node, reader_of}
+use Rattle.ny_heap.specs.Steps.{without_sounds, AddsNode}
 use Rattle.ny_hands.specs.declared.branch.Branch.{Branch}
-use Rattle.ny_hands.specs.Calls.{MakesUnit}
-use Rattle.ny_hands.specs.Hands.{IsLike, AllBegin}
+use Rattle.ny_hands.specs.Hands.{IsLike}
 use Rattle.ny_hands.proofs.OptionLemmas.{same_at, none_some}
 use Rattle.ny_hands.proofs.HandLemmas.{AreKept}
 use Rattle.ny_hands.proofs.MarkLemmas.{spent_like}
-use Rattle.ny_trace.proofs.HeightLemmas.{ComesFrom, from_trimmed}
-use Rattle.ny_heap.specs.Kinds.{UnitKind}
-use Rattle.ny_plan.specs.Rows.{RowSound, Input, Row, After, row_at, no_row, shown, unit}
-use Rattle.ny_plan.specs.Need.{Filled, need, is_open, has_come}
-use Rattle.ny_plan.specs.Units.{counted_from}
-use Rattle.ny_heap.specs.Kinds.{unit_kind}
-use Rattle.ny_plan.specs.StandsFor.{ReadsFor}
-use Rattle.ny_match.specs.Matched.{IsFirst, Seats, IsSound, IsFree, Awaits, IsUnit, Matched}
-use Rattle.ny_match.specs.Born.{AreSounds, Born}
-use Rattle.ny_match.proofs.GrowLemmas.{first_self, first_then}
-use Rattle.ny_match.proofs.SeatLemmas.{SameRows, SameParts, sound_later, uses_same, unit_later, unit_like, matched_from, put, put_at, put_else, seated}
+use Rattle.ny_trace.proofs.HeightLemmas.{ComesFrom}
+use Rattle.ny_plan.specs.Rows.{Row, row_at}
+use Rattle.ny_plan.specs.Need.{Filled}
+use Rattle.ny_match.specs.Matched.{Seats, IsFree, IsUnit, Matched}
+use Rattle.ny_match.specs.Born.{Born}
+use Rattle.ny_match.proofs.SeatLemmas.{SameRows, SameParts, uses_same, unit_later, unit_like, matched_from, put_at, put_else, seated}
 
 module _ (code : Code) (all : List Row) (filled : Filled) where
   -- ---- what is left

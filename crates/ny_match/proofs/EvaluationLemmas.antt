@@ -1,5 +1,5 @@
 -- An evaluation makes what the plan makes: node by node, and by induction on the depth of its trace.
-use Rattle.std.proofs.Common.{◌≡◌, inl, inr, ℕ, zero, suc, ◌+◌, ◌<◌, Bool, true, false, if◌then◌else◌, List, [], ◌∷◌, map, zip, length, Option, None, Some, unwrap_or, refl, sym, ap, subst, ◌∙◌, arith, ℤ}
+use Rattle.std.proofs.Common.{◌≡◌, inl, inr, ℕ, zero, suc, ◌<◌, Bool, true, false, if◌then◌else◌, List, [], map, length, Option, None, Some, refl, sym, ap, subst, arith, ℤ}
 use Rattle.std.specs.List.{range_with_len}
 use Rattle.ny_kernels.specs.declared.operation.Op.{Op}
 use Rattle.ny_warp.specs.declared.env.Env.{Env}
@@ -11,13 +11,9 @@ use Rattle.ny_check.specs.declared.node.Effect.{Effect}
 use Rattle.ny_check.specs.declared.node.Generator.{Generator}
 use Rattle.ny_check.specs.declared.node.Node.{Node}
 use Rattle.ny_check.specs.declared.node.Node.TheVariants as node
-use Rattle.ny_check.specs.declared.value.Value.{Value}
-use Rattle.ny_check.specs.declared.value.Value.TheVariants.{Number, Sound as SoundOf}
 use Rattle.ny_check.specs.Code.{Code, node_at as node_in, function_at, IsBelow, IsOrdered}
 use Rattle.ny_check.specs.Values.{scalars_of, number_of, test_of}
 use Rattle.ny_check.specs.Families.{leaf_time, leaf_sound, effect_sound, changed_env}
-use Rattle.ny_num.specs.declared.timing.Timing.{Timing}
-use Rattle.ny_num.specs.Sound as sounds
 use Rattle.ny_heap.specs.declared.make.Make.TheVariants.{Leaf as MakesLeaf}
 use Rattle.ny_heap.specs.declared.sound.Sound.{Sound}
 use Rattle.ny_heap.specs.Heap.{Made, HeapState}
@@ -30,30 +26,29 @@ use Rattle.ny_trace.specs.Evaluates.{Trace, parts_of, counted_parts, numbers_in,
 use Rattle.ny_trace.specs.Laws.{KeepsFree, IsLawful}
 use Rattle.ny_trace.proofs.EvaluationLemmas.{below_all, below_binds, evaluates_lawful}
 use Rattle.ny_trace.proofs.MixLemmas.{parts_are, counted_are}
-use Rattle.ny_trace.proofs.FamilyLemmas.{leaf_is}
 use Rattle.ny_hands.proofs.NameLemmas.{named_kept}
 use Rattle.ny_trace.proofs.RisingLemmas.{value_list}
 use Rattle.ny_hands.proofs.HandLemmas.{hand_more}
 use Rattle.ny_heap.specs.Kinds.{UnitKind}
 use Rattle.ny_hands.specs.Kinds.{kind_of_generator, kind_of_effect}
 use Rattle.ny_heap.specs.Kinds.{kind_of_leaf, kind_of_make}
-use Rattle.ny_plan.specs.Rows.{RowSound, Row, After, Step, given, and_then, each, shown, silent}
+use Rattle.ny_plan.specs.Rows.{RowSound, Row, Step, given, and_then, silent}
 use Rattle.ny_plan.specs.Need.{Filled}
-use Rattle.ny_plan.specs.Units.{Part as PlanPart, leaf_by, row_over, paired, negated, cued, parts_in, mixed}
+use Rattle.ny_plan.specs.Units.{leaf_by, row_over, paired, negated, cued, parts_in, mixed}
 use Rattle.ny_plan.specs.Plan as plans
 use Rattle.ny_plan.specs.Plan.{sound_in, value_of, part_of, repeated_parts, number, made_at, made}
 use Rattle.ny_plan.proofs.SoundLemmas.{none_of_no_kind}
-use Rattle.ny_match.specs.Matched.{IsFirst, Seats, IsSound, AreNames, IsFree, Matched}
-use Rattle.ny_match.specs.Born.{Born, IsMatching}
+use Rattle.ny_match.specs.Matched.{IsFirst, Seats, IsSound, AreNames}
+use Rattle.ny_match.specs.Born.{IsMatching}
 use Rattle.ny_match.proofs.GrowLemmas.{first_then, made_grows, grows_value, grows_paired, grows_negated, grows_over, grows_cued}
 use Rattle.ny_match.proofs.MadeLemmas.{made-is}
 use Rattle.ny_match.proofs.SeatLemmas.{names_later}
-use Rattle.ny_match.proofs.BornLemmas.{Grew, grew_of, grew_none, grew_from, grew_then}
+use Rattle.ny_match.proofs.BornLemmas.{grew_then}
 use Rattle.ny_match.proofs.UnitLemmas.{Turns, Fits, fits_first, fits_next, none_turn, silent_turn, made_turn}
 use Rattle.ny_match.proofs.NameLemmas.{value_later, same_scalars, found_both, named_turn}
 use Rattle.ny_match.proofs.OperandLemmas.{turn_on, over_turn, join_turn, negated_turn, cued_turn}
 use Rattle.ny_match.proofs.FrameLemmas.{named_value, made_turn_of, value_hand, value_turn, block_turn, call_turn}
-use Rattle.ny_match.proofs.MixLemmas.{plan_parts, listed, counted, listed_are, listed_plan, counted_names_are, counted_plan, sim_turn}
+use Rattle.ny_match.proofs.MixLemmas.{listed, counted, listed_are, listed_plan, counted_names_are, counted_plan, sim_turn}
 
 -- ---- parts in turn
 

@@ -1,5 +1,5 @@
 -- Values, blocks and calls of the trace and of the plan, side by side.
-use Rattle.std.proofs.Common.{◌≡◌, ℕ, zero, suc, ◌+◌, ◌<◌, ◌≤◌, List, [], ◌∷◌, ◌++◌, map, zip, take, length, refl, sym, ap, subst, ◌∙◌, arith}
+use Rattle.std.proofs.Common.{◌≡◌, ℕ, ◌<◌, List, [], ◌∷◌, ◌++◌, zip, take, length, refl, sym, ap, subst, ◌∙◌}
 use Rattle.std.proofs.lemmas.List.{append_assoc, append-nil}
 use Rattle.ny_resolve.specs.declared.term.NameId.{NameId}
 use Rattle.ny_warp.specs.declared.env.Env.{Env}
@@ -14,27 +14,26 @@ use Rattle.ny_heap.specs.declared.sound.Sound.{Sound}
 use Rattle.ny_heap.specs.Heap.{HeapState}
 use Rattle.ny_heap.specs.Reach.{HeapLaws}
 use Rattle.ny_hands.specs.declared.branch.Branch.{Branch}
-use Rattle.ny_hands.specs.Frames.{Names, bound_in, sounds_among}
+use Rattle.ny_hands.specs.Frames.{Names, sounds_among}
 use Rattle.ny_hands.specs.Hands.{AllBegin, Hand, IsNamed, AreNamed}
 use Rattle.ny_hands.proofs.HandLemmas.{hand_none}
 use Rattle.ny_hands.proofs.NameLemmas.{named_kept, named_append}
 use Rattle.ny_trace.specs.Evaluates.{Trace, IsNoNumber, ValueTurn, BindsTurn, BlockTurn, ValuesTurn, CallTurn, sounds_of_values}
 use Rattle.ny_trace.specs.Laws.{IsLawful}
 use Rattle.ny_trace.proofs.ValueLemmas.{value_comes}
-use Rattle.ny_trace.proofs.BlockLemmas.{below_first, binds_come, binds_leave, bind_sounds_are, args_come, args_leave, arg_sounds}
+use Rattle.ny_trace.proofs.BlockLemmas.{below_first, binds_come, binds_leave, args_come, args_leave}
 use Rattle.ny_trace.proofs.RisingLemmas.{value_list}
 use Rattle.ny_plan.specs.Rows.{RowSound, Row, After, Step, given, and_then, each}
 use Rattle.ny_plan.specs.Need.{Filled}
 use Rattle.ny_plan.specs.Plan as plans
 use Rattle.ny_plan.specs.Plan.{value_by, value_of, names_after, made}
-use Rattle.ny_match.specs.Matched.{IsFirst, Seats, IsSound, IsValue, AreNames, Matched}
-use Rattle.ny_match.specs.Born.{Born, IsMatching}
-use Rattle.ny_match.proofs.GrowLemmas.{first_then, grows_each, made_grows, grows_value, grows_names}
+use Rattle.ny_match.specs.Matched.{IsFirst, Seats, IsSound, IsValue, AreNames}
+use Rattle.ny_match.specs.Born.{IsMatching}
+use Rattle.ny_match.proofs.GrowLemmas.{grows_each, made_grows, grows_value, grows_names}
 use Rattle.ny_match.proofs.SeatLemmas.{names_later}
-use Rattle.ny_match.proofs.BornLemmas.{Grew, grew_of, grew_none, grew_wider, grew_then}
+use Rattle.ny_match.proofs.BornLemmas.{grew_of, grew_none, grew_then}
 use Rattle.ny_match.proofs.UnitLemmas.{Turns, Fits, fits_first, fits_next, given_turn, grew_released}
 use Rattle.ny_match.proofs.NameLemmas.{value_later, same_scalars, names_append}
-use Rattle.ny_match.proofs.OperandLemmas.{TurnsFrom, turn_on}
 
 -- the sound of a value begins
 pub named_value : (h : HeapState Branch) (v : Value Sound) → AllBegin h (value_list v) → IsNamed h v
@@ -113,7 +112,7 @@ module _ (code : Code) (D : Trace) (law : IsLawful code D) (match : IsMatching c
       let u = made_turn_of e.0 env (names ++ step.added) x.gives step.mid step.end s t.0 x.rows step.body inside left.0 left.1 t.2 (fits_next code all filled old step.mid seats t.0 rows x.rows last more rest t.1 fits) in (
         u.0,
         grew_released code all filled old step.end new seats u.0 (length rows) (length last.rows) (sounds_among step.added) step.given_up
-        (grew_then code all filled old step.mid step.end seats t.0 u.0 (length rows) (length x.rows) (length last.rows) more.short rest.short comes.hand.kept t.1 u.1),
+            (grew_then code all filled old step.mid step.end seats t.0 u.0 (length rows) (length x.rows) (length last.rows) more.short rest.short comes.hand.kept t.1 u.1),
         u.2,
       )
 
@@ -159,6 +158,6 @@ module _ (code : Code) (D : Trace) (law : IsLawful code D) (match : IsMatching c
       let u = made_turn_of body env (zip params step.values) (zip params x.gives) step.mid step.end s t.0 x.rows step.inside inside left.0 left.1 t.2 (fits_next code all filled old step.mid seats t.0 rows x.rows last more rest t.1 fits) in (
         u.0,
         grew_released code all filled old step.end new seats u.0 (length rows) (length last.rows) (sounds_of_values step.values) step.given_up
-        (grew_then code all filled old step.mid step.end seats t.0 u.0 (length rows) (length x.rows) (length last.rows) more.short rest.short comes.hand.kept t.1 u.1),
+            (grew_then code all filled old step.mid step.end seats t.0 u.0 (length rows) (length x.rows) (length last.rows) more.short rest.short comes.hand.kept t.1 u.1),
         u.2,
       )

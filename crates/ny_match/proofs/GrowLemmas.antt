@@ -1,9 +1,8 @@
 -- Evaluation by the plan only adds rows to those that are there.
-use Rattle.std.proofs.Common.{◌≡◌, ℕ, zero, suc, ◌+◌, ◌*◌, ◌<◌, ◌≤◌, Bool, true, false, cond, nat_eq, List, [], ◌∷◌, ◌++◌, map, zip, length, Option, None, Some, unwrap_or, refl, ◌∙◌, arith, ℤ, pos}
+use Rattle.std.proofs.Common.{ℕ, ◌*◌, Bool, true, false, cond, nat_eq, List, [], ◌∷◌, ◌++◌, map, zip, Option, None, Some, unwrap_or, refl, ◌∙◌, arith, ℤ, pos}
 use Rattle.std.specs.List.{AllByRecursion, range_with_len}
 use Rattle.std.proofs.lemmas.List.{get_or_append_left}
 use Rattle.std.proofs.Math.ListN.{length-append}
-use Rattle.ny_num.specs.Grid.{index_at}
 use Rattle.ny_num.specs.declared.rate.Rate.{Rate}
 use Rattle.ny_num.specs.declared.timing.Timing.{Timing}
 use Rattle.ny_num.specs.Sound as sounds
@@ -35,9 +34,9 @@ use Rattle.ny_num.specs.Pointwise.{combined, each_value}
 use Rattle.ny_kernels.specs.Operations.{operation}
 use Rattle.ny_heap.specs.Kinds.{UnitKind, Mix, Sub, Mul, kind_of_op}
 use Rattle.ny_hands.specs.Kinds.{kind_of_generator, kind_of_effect}
-use Rattle.ny_plan.specs.Rows.{RowSound, Input, Row, After, Step, row_at, no_row, given, and_then, each, shown, silent, input, unit}
-use Rattle.ny_plan.specs.Units.{first, second, leaf_by, row_over, brought, paired, negated, cued, Part, parts_together, coming, next_part, parts_after, parts_in_turn, parts_in, mixed, channel_row}
-use Rattle.ny_plan.specs.Plan.{Names, Makes, sound_in, value_by, value_of, names_after, part_of, repeated_parts, number, made_at, made, operand, played_at, played, plan}
+use Rattle.ny_plan.specs.Rows.{RowSound, Input, Row, After, Step, no_row, given, and_then, each, shown, silent, input, unit}
+use Rattle.ny_plan.specs.Units.{first, second, leaf_by, row_over, brought, paired, negated, cued, Part, parts_together, next_part, parts_after, parts_in_turn, parts_in, mixed, channel_row}
+use Rattle.ny_plan.specs.Plan.{Names, Makes, sound_in, value_by, value_of, names_after, part_of, repeated_parts, number, made_at, made, operand, played_at, played}
 use Rattle.ny_plan.proofs.OrderLemmas.{by_smaller-all}
 use Rattle.ny_match.specs.Matched.{IsFirst}
 

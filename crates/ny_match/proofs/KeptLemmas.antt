@@ -1,8 +1,8 @@
 -- Parts that wait: what they keep is what the plan's parts have captured.
-use Rattle.std.proofs.Common.{◌≡◌, ◌≢◌, ◌⊎◌, inl, inr, ℕ, zero, suc, ◌+◌, ◌*◌, ◌<◌, ◌≤◌, nat_eq, Bool, true, false, List, [], ◌∷◌, ◌++◌, map, length, get_or, slice_get, Option, None, Some, refl, sym, ap, subst, ◌∙◌, arith, pos}
+use Rattle.std.proofs.Common.{◌≡◌, ◌≢◌, ◌⊎◌, inl, inr, ℕ, suc, nat_eq, Bool, true, false, List, [], ◌∷◌, ◌++◌, map, length, get_or, slice_get, Option, None, Some, refl, sym, ap, subst, ◌∙◌, arith}
 use Rattle.std.specs.Prelude.{flat_map, ◌||◌}
 use Rattle.std.specs.Option.{option_map}
-use Rattle.std.specs.List.{AllZip, list_any, range_with_len}
+use Rattle.std.specs.List.{AllZip, list_any}
 use Rattle.std.proofs.lemmas.List.{append_assoc}
 use Rattle.std.proofs.lemmas.Bool.Decides.{eqb_tells}
 use Rattle.std.proofs.Math.ListN.{length-append}
@@ -26,14 +26,14 @@ use Rattle.ny_trace.specs.Evaluates.{Part, KeepTurn, KeepsTurn, WaitsTurn}
 use Rattle.ny_trace.proofs.HeightLemmas.{ComesFrom}
 use Rattle.ny_trace.proofs.RisingSeqLemmas.{from_shared}
 use Rattle.ny_plan.specs.Rows.{RowSound, Input, Row, After}
-use Rattle.ny_plan.specs.Units.{Part as PlanPart, counted_from, next_part, parts_after}
+use Rattle.ny_plan.specs.Units.{counted_from, next_part, parts_after}
 use Rattle.ny_plan.specs.Plan as plans
 use Rattle.ny_plan.specs.Plan.{sounds_of, captured, part_of, made}
 use Rattle.ny_plan.specs.StandsFor.{Keeps}
-use Rattle.ny_match.specs.Matched.{Part as TablePart, IsSound, AreNames, IsKeptValue, AreKeptNames, IsPart}
+use Rattle.ny_match.specs.Matched.{Part as TablePart, IsSound, AreNames, AreKeptNames, IsPart}
 use Rattle.ny_match.specs.Keeps.{KeepMade}
 use Rattle.ny_match.proofs.NameLemmas.{FoundBoth, found_both}
-use Rattle.ny_match.proofs.MixLemmas.{PartsAre, plan_parts, listed, counted, counted_plan_names}
+use Rattle.ny_match.proofs.MixLemmas.{PartsAre, plan_parts, listed, counted}
 
 -- ---- what is kept of free names
 

@@ -1,18 +1,17 @@
 -- What an expression makes at each kind of node, where the nodes named stand before it.
-use Rattle.std.proofs.Common.{◌≡◌, ℕ, ◌<◌, if◌then◌else◌, List, [], ◌∷◌, ◌++◌, map, zip, refl, sym, ap, ◌∙◌, subst}
+use Rattle.std.proofs.Common.{◌≡◌, ℕ, ◌<◌, if◌then◌else◌, List, [], ◌∷◌, ◌++◌, map, zip, refl, ap, ◌∙◌}
 use Rattle.ny_warp.specs.declared.env.Env.{Env}
 use Rattle.ny_resolve.specs.declared.term.NameId.{NameId}
 use Rattle.ny_check.specs.declared.node.Node.{Node}
 use Rattle.ny_check.specs.declared.node.Node.TheVariants as node
 use Rattle.ny_check.specs.declared.node.ExprId.{ExprId}
-use Rattle.ny_check.specs.declared.value.Value.{Value}
 use Rattle.ny_check.specs.Code.{Code, node_at, function_at, IsBelow, AllBelow, BindsBelow}
 use Rattle.ny_check.specs.Recursion.{below}
 use Rattle.ny_check.specs.Values.{scalar_of, scalars_of, test_of}
 use Rattle.ny_check.specs.Families.{effect_sound, changed_env}
 use Rattle.ny_check.proofs.Smaller.{below-at, by_smaller-is}
 use Rattle.ny_hands.specs.Kinds.{kind_of_effect}
-use Rattle.ny_plan.specs.Rows.{RowSound, Step, given, and_then, each, silent}
+use Rattle.ny_plan.specs.Rows.{given, and_then, each, silent}
 use Rattle.ny_plan.specs.Units.{row_over, paired, negated, cued, parts_in, mixed}
 use Rattle.ny_plan.specs.Plan.{Names, Makes, Plays, value_by, value_of, names_after, part_of, repeated_parts, number, made_at, made, played_at, played}
 

@@ -1,5 +1,5 @@
 -- Parts of a mix, of the trace and of the plan, side by side; and parts together.
-use Rattle.std.proofs.Common.{◌≡◌, ℕ, ◌+◌, ◌-◌, ◌*◌, ◌<◌, ◌≤◌, List, [], ◌∷◌, ◌++◌, map, length, Option, None, Some, refl, sym, ap, subst, ◌∙◌, arith, pos}
+use Rattle.std.proofs.Common.{◌≡◌, ℕ, ◌*◌, ◌<◌, ◌≤◌, List, [], ◌∷◌, ◌++◌, map, length, Option, None, Some, refl, sym, ap, subst, ◌∙◌, arith, pos}
 use Rattle.std.specs.List.{AllByRecursion, range_with_len}
 use Rattle.std.specs.Option.{option_map}
 use Rattle.std.proofs.lemmas.List.{append_assoc, append-nil}
@@ -25,17 +25,17 @@ use Rattle.ny_trace.specs.Evaluates.{Trace, Part, parts_of, counted_names, count
 use Rattle.ny_trace.specs.Laws.{IsLawful}
 use Rattle.ny_trace.proofs.MixLemmas.{AreParts, parts_kept, parts_come, part_sounds}
 use Rattle.ny_heap.specs.Kinds.{Mix as MixKind}
-use Rattle.ny_plan.specs.Rows.{RowSound, Input, Row, After, Step, and_then, each, given, input, unit}
-use Rattle.ny_plan.specs.Need.{Filled, has_come}
+use Rattle.ny_plan.specs.Rows.{RowSound, Input, Row, After, and_then, each, given, input}
+use Rattle.ny_plan.specs.Need.{Filled}
 use Rattle.ny_plan.specs.Units.{Part as PlanPart, brought, counted_from, parts_together, mixed}
 use Rattle.ny_plan.specs.Plan as plans
 use Rattle.ny_plan.specs.Plan.{part_of, repeated_parts, made}
-use Rattle.ny_match.specs.Matched.{Part as TablePart, IsFirst, Seats, IsSound, AreNames, Matched}
+use Rattle.ny_match.specs.Matched.{Part as TablePart, IsFirst, Seats, IsSound, AreNames}
 use Rattle.ny_match.specs.Born.{AreSounds, IsMatching}
-use Rattle.ny_match.proofs.GrowLemmas.{first_self, first_then, PartGrows, grows_each, grows_brought, grows_sounds, made_grows, grows_mixed}
+use Rattle.ny_match.proofs.GrowLemmas.{first_then, PartGrows, grows_each, grows_brought, grows_sounds, made_grows, grows_mixed}
 use Rattle.ny_match.proofs.SeatLemmas.{SameRows, names_later, sound_later, sounds_later}
 use Rattle.ny_match.proofs.BornLemmas.{Grew, grew_none, grew_then}
-use Rattle.ny_match.proofs.UnitLemmas.{FirstInputs, come_first, Turns, Fits, fits_first, fits_next, given_turn, made_turn, brought_turn}
+use Rattle.ny_match.proofs.UnitLemmas.{FirstInputs, come_first, Turns, Fits, fits_first, fits_next, made_turn, brought_turn}
 use Rattle.ny_match.proofs.NameLemmas.{names_append}
 use Rattle.ny_match.proofs.OperandLemmas.{TurnsFrom, turn_on}
 use Rattle.ny_match.proofs.FrameLemmas.{made_turn_of}

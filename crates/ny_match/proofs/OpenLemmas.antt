@@ -1,5 +1,5 @@
 -- The opening of a program: its channels are those of the plan.
-use Rattle.std.proofs.Common.{◌≡◌, ◌⊎◌, inl, inr, ℕ, zero, suc, ◌+◌, ◌<◌, ◌≤◌, List, [], ◌∷◌, ◌++◌, map, length, get_or, slice_index, Option, None, Some, refl, sym, ap, subst, ◌∙◌, arith}
+use Rattle.std.proofs.Common.{◌≡◌, inl, inr, ℕ, zero, suc, ◌≤◌, List, [], ◌∷◌, ◌++◌, length, slice_index, None, refl, sym, subst, arith}
 use Rattle.std.proofs.lemmas.List.{append_assoc, append-nil}
 use Rattle.ny_num.specs.declared.rate.Rate.{Rate}
 use Rattle.ny_num.specs.declared.timing.Timing.{Timing}
@@ -7,30 +7,30 @@ use Rattle.ny_num.specs.Mix.{channel_timing, channel}
 use Rattle.ny_warp.specs.Environment.{opening}
 use Rattle.ny_check.specs.Code.{Code, IsOrdered}
 use Rattle.ny_heap.specs.declared.sound.Sound.{Sound}
-use Rattle.ny_heap.specs.Heap.{Channel, Node, HeapState, node_at}
+use Rattle.ny_heap.specs.Heap.{Channel, HeapState, node_at}
 use Rattle.ny_heap.specs.Reach.{HeapLaws}
 use Rattle.ny_hands.specs.declared.branch.Branch.{Branch}
 use Rattle.ny_hands.specs.Calls.{MakesUnit}
-use Rattle.ny_hands.specs.Hands.{Hand, AllBegin, sounds_in}
+use Rattle.ny_hands.specs.Hands.{Hand}
 use Rattle.ny_hands.proofs.OptionLemmas.{none_some}
 use Rattle.ny_hands.proofs.HandLemmas.{hand_made, hand_turned, begin_first, begin_last}
 use Rattle.ny_hands.proofs.SpendLemmas.{hand_brought}
-use Rattle.ny_trace.specs.Laws.{KeepsFree, IsLawful}
+use Rattle.ny_trace.specs.Laws.{KeepsFree}
 use Rattle.ny_trace.specs.Plays.{EvaluatesAny, Plays}
 use Rattle.ny_trace.proofs.PlaysLemmas.{any_lawful, plays_lawful}
 use Rattle.ny_heap.specs.Kinds.{Channel as ChannelKind}
-use Rattle.ny_plan.specs.Rows.{RowSound, Row, After, and_then, each, input, unit}
+use Rattle.ny_plan.specs.Rows.{RowSound, Row, After, each, input}
 use Rattle.ny_plan.specs.Need.{Filled}
 use Rattle.ny_plan.specs.Peak.{nothing_filled}
 use Rattle.ny_plan.specs.Units.{first, brought, channel_row}
 use Rattle.ny_plan.specs.Plan.{played, plan}
-use Rattle.ny_match.specs.Matched.{IsFirst, Seats, IsSound, IsFree, Matched}
+use Rattle.ny_match.specs.Matched.{IsFirst, Seats, IsFree, Matched}
 use Rattle.ny_match.specs.Born.{AreSounds, IsMatching}
-use Rattle.ny_trace.specs.Channels.{ChannelTurn, ChannelsTurn}
+use Rattle.ny_trace.specs.Channels.{ChannelsTurn}
 use Rattle.ny_match.proofs.GrowLemmas.{first_self, first_then, grows_each, grows_brought, grows_channel, played_grows}
 use Rattle.ny_match.proofs.SeatLemmas.{sounds_later}
 use Rattle.ny_match.proofs.BornLemmas.{Grew, grew_wider, grew_within, free_less, free_later, free_beside}
-use Rattle.ny_match.proofs.UnitLemmas.{come_first, Fits, made_turn, brought_turn}
+use Rattle.ny_match.proofs.UnitLemmas.{come_first, made_turn, brought_turn}
 use Rattle.ny_match.proofs.MixLemmas.{SameOn, same_on, same_then, same_first, same_last, sound_on}
 use Rattle.ny_match.proofs.PlaysLemmas.{plays_matching}
 
@@ -89,8 +89,8 @@ module _ (code : Code) (all : List Row) (filled : Filled) where
         w.1,
         (sound_on u.0.row w.0.row t y.gives (same_last u.0.row w.0.row done (t ∷ []) w.3) u.2, w.2),
         same_then now.row u.0.row w.0.row done
-        (same_then now.row q.0.row u.0.row done (same_on mid now.row q.0.row done (begin_last mid ss done h.begin.1) q.1.row) (same_on turn.mid q.0.row u.0.row done (begin_last turn.mid ss done c1.begin.1) u.1.row))
-        (same_first u.0.row w.0.row done (t ∷ []) w.3),
+            (same_then now.row q.0.row u.0.row done (same_on mid now.row q.0.row done (begin_last mid ss done h.begin.1) q.1.row) (same_on turn.mid q.0.row u.0.row done (begin_last turn.mid ss done c1.begin.1) u.1.row))
+            (same_first u.0.row w.0.row done (t ∷ []) w.3),
       )
 
 -- ---- from an empty heap

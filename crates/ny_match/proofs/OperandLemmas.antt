@@ -1,5 +1,5 @@
 -- Operations, effects and cues of the trace and of the plan, side by side.
-use Rattle.std.proofs.Common.{◌≡◌, ℕ, ◌+◌, ◌<◌, ◌≤◌, Bool, true, false, if◌then◌else◌, List, [], ◌∷◌, ◌++◌, map, length, Option, None, Some, refl, sym, ap, subst, ◌∙◌, arith, ℤ, pos}
+use Rattle.std.proofs.Common.{◌≡◌, ℕ, ◌≤◌, Bool, true, false, if◌then◌else◌, List, [], ◌∷◌, ◌++◌, length, Option, None, refl, subst, arith, ℤ, pos}
 use Rattle.ny_num.specs.Numbers.{sat_sample, sample_sub}
 use Rattle.ny_num.specs.Leaves.{louder_value}
 use Rattle.ny_num.specs.Pointwise.{combined, each_value}
@@ -30,16 +30,16 @@ use Rattle.ny_trace.specs.Evaluates.{OneTurn, BothTurn, JoinTurn, LouderTurn, Cu
 use Rattle.ny_trace.proofs.CueLemmas.{cued_len}
 use Rattle.ny_trace.proofs.FamilyLemmas.{same_timing}
 use Rattle.ny_trace.proofs.RisingLemmas.{value_list}
-use Rattle.ny_heap.specs.Kinds.{UnitKind, Sub, Mul, kind_of_op}
-use Rattle.ny_plan.specs.Rows.{RowSound, Input, Row, After, given, and_then, shown, silent, input, unit}
+use Rattle.ny_heap.specs.Kinds.{UnitKind, Mul, kind_of_op}
+use Rattle.ny_plan.specs.Rows.{RowSound, Row, After, given, and_then, shown, silent, input, unit}
 use Rattle.ny_plan.specs.Need.{Filled}
 use Rattle.ny_plan.specs.Units.{first, second, row_over, brought, paired, negated, cued}
 use Rattle.ny_heap.specs.Kinds.{unit_kind}
-use Rattle.ny_match.specs.Matched.{IsFirst, Seats, IsSound, IsValue, Matched}
+use Rattle.ny_match.specs.Matched.{IsFirst, Seats, IsSound, IsValue}
 use Rattle.ny_match.proofs.GrowLemmas.{first_self, first_then, grows_unit, grows_over, grows_brought}
 use Rattle.ny_match.proofs.SeatLemmas.{sound_later}
 use Rattle.ny_match.proofs.BornLemmas.{Grew, grew_then}
-use Rattle.ny_match.proofs.UnitLemmas.{Turns, Fits, fits_first, fits_next, come_first, given_turn, silent_turn, placed_turn, made_turn, brought_turn}
+use Rattle.ny_match.proofs.UnitLemmas.{Turns, Fits, fits_first, fits_next, come_first, silent_turn, placed_turn, made_turn, brought_turn}
 
 module _ (code : Code) (all : List Row) (filled : Filled) where
   -- from an earlier heap on, whose next row was number n

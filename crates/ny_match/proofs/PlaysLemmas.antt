@@ -1,5 +1,5 @@
 -- What is played makes what the plan makes: node by node, and by induction on the depth of its trace.
-use Rattle.std.proofs.Common.{◌≡◌, inl, inr, ℕ, zero, suc, ◌+◌, ◌<◌, ◌≤◌, Bool, true, false, if◌then◌else◌, List, [], ◌∷◌, ◌++◌, map, zip, take, length, refl, sym, ap, subst, ◌∙◌, arith}
+use Rattle.std.proofs.Common.{◌≡◌, inl, inr, ℕ, zero, suc, ◌<◌, Bool, true, false, if◌then◌else◌, List, [], ◌∷◌, ◌++◌, zip, take, length, refl, sym, ap, subst, arith}
 use Rattle.ny_warp.specs.declared.env.Env.{Env}
 use Rattle.ny_check.specs.declared.node.ExprId.{ExprId}
 use Rattle.ny_check.specs.declared.node.Node.{Node}
@@ -18,7 +18,7 @@ use Rattle.ny_trace.specs.Plays.{PlaysTrace, EvaluatesAny, PlaysOne, PlaysNode, 
 use Rattle.ny_trace.proofs.BlockLemmas.{below_first, binds_come, binds_leave, args_come, args_leave}
 use Rattle.ny_trace.proofs.EvaluationLemmas.{below_all, below_binds}
 use Rattle.ny_trace.proofs.MixLemmas.{parts_are}
-use Rattle.ny_plan.specs.Rows.{RowSound, Row, After, Step, given, and_then, each}
+use Rattle.ny_plan.specs.Rows.{RowSound, Row, Step, given, and_then, each}
 use Rattle.ny_plan.specs.Need.{Filled}
 use Rattle.ny_plan.specs.Units.{Part as PlanPart}
 use Rattle.ny_plan.specs.Plan as plans
@@ -73,7 +73,7 @@ module _ (code : Code) (D : Trace) (law : IsLawful code D) (match : IsMatching c
       let u = plays body env (zip params step.values) step.mid step.end ss step.inside (omega (arith, below.2, inside)) left.0 left.1 all filled t.0 (zip params x.gives) x.rows t.2 (fits_next code all filled old step.mid seats t.0 rows x.rows last more rest t.1 fits) in (
         u.0,
         grew_released code all filled old step.end new seats u.0 (length rows) (length last.rows) (sounds_of_values step.values) step.given_up
-        (grew_then code all filled old step.mid step.end seats t.0 u.0 (length rows) (length x.rows) (length last.rows) more.short rest.short comes.hand.kept t.1 u.1),
+            (grew_then code all filled old step.mid step.end seats t.0 u.0 (length rows) (length x.rows) (length last.rows) more.short rest.short comes.hand.kept t.1 u.1),
         u.2,
       )
   node_plays (node.Block bs a) below step = λ fits.
@@ -88,7 +88,7 @@ module _ (code : Code) (D : Trace) (law : IsLawful code D) (match : IsMatching c
       let u = plays a.0 env (names ++ step.added) step.mid step.end ss step.body (omega (arith, below.1, inside)) left.0 left.1 all filled t.0 x.gives x.rows t.2 (fits_next code all filled old step.mid seats t.0 rows x.rows last more rest t.1 fits) in (
         u.0,
         grew_released code all filled old step.end new seats u.0 (length rows) (length last.rows) (sounds_among step.added) step.given_up
-        (grew_then code all filled old step.mid step.end seats t.0 u.0 (length rows) (length x.rows) (length last.rows) more.short rest.short comes.hand.kept t.1 u.1),
+            (grew_then code all filled old step.mid step.end seats t.0 u.0 (length rows) (length x.rows) (length last.rows) more.short rest.short comes.hand.kept t.1 u.1),
         u.2,
       )
   node_plays (node.If c a b) below step =

@@ -1,5 +1,5 @@
 -- Seats: a unit is the row that it was, where its heap only changes by who reads it from outside, or by seats of others.
-use Rattle.std.proofs.Common.{◌≡◌, ◌≢◌, ◌⊎◌, inl, inr, ℕ, zero, suc, ◌+◌, ◌<◌, ◌≤◌, nat_eq, true, false, if◌then◌else◌, List, [], ◌∷◌, ◌++◌, map, drop, length, get_or, slice_get, slice_index, Option, None, Some, refl, sym, ap, subst, ◌∙◌, arith}
+use Rattle.std.proofs.Common.{◌≡◌, ◌≢◌, ◌⊎◌, inl, inr, ℕ, suc, ◌+◌, nat_eq, true, false, if◌then◌else◌, List, [], ◌∷◌, ◌++◌, drop, length, slice_get, slice_index, Option, None, Some, refl, sym, ap, subst, ◌∙◌}
 use Rattle.std.specs.List.{AllZip}
 use Rattle.std.specs.Option.{option_map}
 use Rattle.std.proofs.lemmas.Bool.Decides.{eqb_tells}
@@ -14,7 +14,7 @@ use Rattle.ny_heap.specs.Reach.{Read, Hold, HeapLaws}
 use Rattle.ny_hands.specs.declared.branch.Branch.{Branch}
 use Rattle.ny_hands.specs.Frames as frames
 use Rattle.ny_hands.specs.Hands.{IsLike, Begins, AllBegin, IsNamed, AreNamed}
-use Rattle.ny_hands.proofs.OptionLemmas.{some_there, none_some}
+use Rattle.ny_hands.proofs.OptionLemmas.{some_there}
 use Rattle.ny_trace.proofs.HeightLemmas.{ComesFrom}
 use Rattle.ny_plan.specs.Rows.{RowSound, Input, Row, row_at}
 use Rattle.ny_plan.specs.Need.{Filled}
@@ -175,19 +175,23 @@ module _ (code : Code) (all : List Row) where
         come = is.come;
         readers = is.readers;
         inputs = is.inputs;
-        awaits = λ unfinished. let q = is.awaits unfinished in (q.0, q.1, record {
-          env = q.2.env;
-          parts = q.2.parts;
-          rows = q.2.rows;
-          before = q.2.before;
-          from = q.2.from;
-          after = q.2.after;
-          upto = q.2.upto;
-          inputs = q.2.inputs;
-          rate = q.2.rate;
-          are = q.2.are;
-          keep = q.2.keep;
-        });
+        awaits = λ unfinished. let q = is.awaits unfinished in (
+          q.0,
+          q.1,
+          record {
+            env = q.2.env;
+            parts = q.2.parts;
+            rows = q.2.rows;
+            before = q.2.before;
+            from = q.2.from;
+            after = q.2.after;
+            upto = q.2.upto;
+            inputs = q.2.inputs;
+            rate = q.2.rate;
+            are = q.2.are;
+            keep = q.2.keep;
+          },
+        );
       }
 
   -- ---- heaps

@@ -1,10 +1,10 @@
 -- Parts in turn: those that are due are the plan's, and those that wait make its next rows.
-use Rattle.std.proofs.Common.{◌≡◌, ◌≢◌, ◌⊎◌, inl, inr, ℕ, zero, suc, ◌+◌, ◌-◌, ◌*◌, ◌<◌, ◌≤◌, nat_eq, nat_lt, Bool, true, false, if◌then◌else◌, List, [], ◌∷◌, ◌++◌, map, drop, length, get_or, Option, None, Some, refl, sym, ap, subst, ◌∙◌, arith, ℤ}
+use Rattle.std.proofs.Common.{◌≡◌, ◌≢◌, ◌⊎◌, inl, inr, ℕ, suc, ◌+◌, ◌-◌, ◌*◌, ◌<◌, ◌≤◌, nat_eq, nat_lt, true, false, if◌then◌else◌, List, [], ◌∷◌, ◌++◌, map, drop, length, None, Some, refl, sym, ap, subst, ◌∙◌, arith, ℤ}
 use Rattle.std.specs.List.{AllZip}
 use Rattle.std.specs.Option.{option_map}
 use Rattle.std.proofs.lemmas.Bool.{lt-ltb}
 use Rattle.std.proofs.lemmas.Bool.Decides.{eqb_tells}
-use Rattle.std.proofs.lemmas.List.{append-nil, get_or_append_left}
+use Rattle.std.proofs.lemmas.List.{get_or_append_left}
 use Rattle.std.proofs.Math.Seq.{get_or-append_seam}
 use Rattle.std.proofs.Math.ListN.{length-append}
 use Rattle.ny_num.specs.Grid.{index_at}
@@ -14,11 +14,10 @@ use Rattle.ny_num.specs.Sound as sounds
 use Rattle.ny_num.specs.Sound.{spanning}
 use Rattle.ny_num.specs.Mix.{mix_timing, mix}
 use Rattle.ny_warp.specs.declared.env.Env.{Env}
-use Rattle.ny_warp.specs.Environment.{from_stop}
 use Rattle.ny_check.specs.declared.node.ExprId.{ExprId}
 use Rattle.ny_check.specs.Code.{Code}
 use Rattle.ny_heap.specs.declared.sound.Sound.{Sound}
-use Rattle.ny_heap.specs.Heap.{Mix, Waiting, Node, HeapState, node_at, list_of}
+use Rattle.ny_heap.specs.Heap.{Mix, Waiting, HeapState}
 use Rattle.ny_heap.specs.Reach.{HeapLaws}
 use Rattle.ny_heap.specs.Steps.{new_node, reader_of, waiting_of, sounds_of, last_stop_of}
 use Rattle.ny_hands.specs.declared.branch.Branch.{Branch}
@@ -35,8 +34,8 @@ use Rattle.ny_trace.proofs.MixLemmas.{AreParts, parts_kept, parts_first, parts_l
 use Rattle.ny_trace.proofs.SeqLemmas.{next_comes}
 use Rattle.ny_trace.proofs.WaitLemmas.{waits_come, waits_sounds}
 use Rattle.ny_heap.specs.Kinds.{Mix as MixKind}
-use Rattle.ny_plan.specs.Rows.{RowSound, Input, Row, After, Step, row_at, no_row, and_then, unit}
-use Rattle.ny_plan.specs.Need.{Filled, is_open, has_come}
+use Rattle.ny_plan.specs.Rows.{Input, Row, After, row_at, no_row, and_then, unit}
+use Rattle.ny_plan.specs.Need.{Filled}
 use Rattle.ny_plan.specs.Units.{Part as PlanPart, brought, coming, next_part, parts_after, parts_in_turn, counted_from, mixed}
 use Rattle.ny_plan.specs.Plan.{part_of, made}
 use Rattle.ny_plan.specs.StandsFor.{Keeps}
@@ -154,7 +153,7 @@ module _ (code : Code) (all : List Row) (filled : Filled) where
       none z free = (
         seats,
         grew_from code all filled mid mid new seats seats (length rows) (length more) (from_trimmed mid new spent (step.makes.none z)) (trimmed_block code all filled mid new spent (step.makes.none z))
-        (grew_none code all filled mid seats (length rows) (length more) m),
+            (grew_none code all filled mid seats (length rows) (length more) m),
         record { names = sym (ap (option_map seats.row) (step.makes.result.list ∙ ap (λ n. if nat_lt 0 n then Some step.makes.node else None) z)); timing = step.makes.result.timing },
       )
 
@@ -179,7 +178,7 @@ module _ (code : Code) (all : List Row) (filled : Filled) where
           (λ unfinished. (last_stop_of 0 inputs, λ e. refl, awaits next n same_rows (sym (put_at seats.from n (length rows) n refl)) (sym (put_at seats.upto n (length more) n refl)) more_first)) in (
             next,
             grew_added code all filled mid new spent n (new_node Mix t inputs waiting) seats (length more) (length rows) (length more) (length rows) high laws m adds free inside range apart first.short
-            (subst (λ z. IsUnit code new.block all next n z 0 (new_node Mix t inputs waiting)) (sym here) fits_here),
+                (subst (λ z. IsUnit code new.block all next n z 0 (new_node Mix t inputs waiting)) (sym here) fits_here),
             record {
               names = sym (ap (option_map next.row) (step.makes.result.list ∙ ap (λ b. if b then Some n else None) (lt-ltb 0 t.len some)) ∙ ap Some (put_at seats.row n (length more) n refl));
               timing = step.makes.result.timing;

@@ -1,5 +1,5 @@
 -- What the plan makes is heard as the timings of its names tell.
-use Rattle.std.proofs.Common.{◌≡◌, ℕ, ◌*◌, Bool, true, false, cond, if◌then◌else◌, List, [], ◌∷◌, ◌++◌, map, zip, Option, None, Some, unwrap_or, refl, sym, ap, subst, ◌∙◌, ℤ, pos}
+use Rattle.std.proofs.Common.{◌≡◌, ℕ, ◌*◌, Bool, true, false, cond, if◌then◌else◌, List, [], ◌∷◌, ◌++◌, map, zip, Option, None, Some, unwrap_or, refl, sym, ap, ◌∙◌, pos}
 use Rattle.std.specs.List.{range_with_len}
 use Rattle.ny_num.specs.Grid.{index_at}
 use Rattle.ny_num.specs.declared.rate.Rate.{Rate}
@@ -29,12 +29,12 @@ use Rattle.ny_check.specs.declared.value.Value.TheVariants.{Number, Sound}
 use Rattle.ny_check.specs.Code.{Code, node_at, function_at}
 use Rattle.ny_check.specs.Values.{scalar_in, scalars_of, scalar_of, number_of, test_of}
 use Rattle.ny_check.specs.Behaviours.{is_one, cue_timing}
-use Rattle.ny_check.specs.Families.{pair_timing, leaf_time, leaf_sound, effect_sound, changed_env}
+use Rattle.ny_check.specs.Families.{pair_timing, leaf_time, leaf_sound, changed_env}
 use Rattle.ny_timing.specs.Timings.{number as timed_number, Timed, Times, no_time, timing_in, timed_by, timed_value_of, timed_after, combined_times, negated_time, brought_time, times_together, next_time, times_after, times_in_turn, times_in, time_of_part, time_of_repeat, times_of_repeats, timing_node, timing_at}
 use Rattle.ny_heap.specs.Kinds.{UnitKind, Resample, Mul}
 use Rattle.ny_hands.specs.Kinds.{kind_of_generator}
-use Rattle.ny_plan.specs.Rows.{RowSound, Input, Row, After, Step, given, and_then, each, shown, silent, input, unit}
-use Rattle.ny_plan.specs.Units.{first, leaf_by, row_over, brought, paired, negated, cued, Part, parts_together, coming, next_part, parts_after, parts_in_turn, parts_in, mixed}
+use Rattle.ny_plan.specs.Rows.{RowSound, Input, Row, After, Step, given, each, shown, silent, input, unit}
+use Rattle.ny_plan.specs.Units.{first, leaf_by, row_over, brought, paired, negated, cued, Part, parts_together, next_part, parts_after, parts_in_turn, parts_in}
 use Rattle.ny_plan.specs.Plan.{Names, Makes, sound_in, value_by, value_of, names_after, part_of, repeated_parts, number, made_at, made}
 use Rattle.ny_plan.proofs.BothRecursions.{by_smaller-both}
 

@@ -1,8 +1,7 @@
 -- A node whose parts come one after the other makes what the plan makes; and so, with it, does each evaluation.
-use Rattle.std.proofs.Common.{◌≡◌, inr, ℕ, suc, ◌+◌, ◌<◌, List, [], ◌∷◌, map, length, refl, sym, ap, subst, ◌∙◌, arith}
+use Rattle.std.proofs.Common.{◌≡◌, inr, ℕ, suc, ◌<◌, List, [], ◌∷◌, length, refl, sym, ap, subst, ◌∙◌, arith}
 use Rattle.std.specs.List.{range_with_len}
 use Rattle.ny_num.specs.declared.timing.Timing.{Timing}
-use Rattle.ny_num.specs.Mix.{mix_timing}
 use Rattle.ny_warp.specs.declared.env.Env.{Env}
 use Rattle.ny_resolve.specs.declared.builtin.Order.TheVariants as order
 use Rattle.ny_check.specs.declared.node.Node.{Node}
@@ -10,7 +9,7 @@ use Rattle.ny_check.specs.declared.node.Node.TheVariants as node
 use Rattle.ny_check.specs.declared.value.Value.{Value}
 use Rattle.ny_check.specs.declared.value.Value.TheVariants.{Number, Sound as SoundOf}
 use Rattle.ny_check.specs.Code.{Code, node_at as node_in, IsBelow, IsOrdered}
-use Rattle.ny_timing.specs.Timings.{Timed, timing_at}
+use Rattle.ny_timing.specs.Timings.{timing_at}
 use Rattle.ny_heap.specs.declared.sound.Sound.{Sound}
 use Rattle.ny_heap.specs.Heap.{HeapState}
 use Rattle.ny_heap.specs.Reach.{HeapLaws}
@@ -23,9 +22,9 @@ use Rattle.ny_trace.specs.Plays.{EvaluatesAny}
 use Rattle.ny_trace.proofs.EvaluationLemmas.{below_all, evaluates_lawful}
 use Rattle.ny_trace.proofs.MixLemmas.{parts_are, counted_are}
 use Rattle.ny_walk.proofs.ToldLemmas.{evaluates_told}
-use Rattle.ny_plan.specs.Rows.{RowSound, Input, Row, After, Step, and_then}
+use Rattle.ny_plan.specs.Rows.{RowSound, Row, After, Step, and_then}
 use Rattle.ny_plan.specs.Need.{Filled}
-use Rattle.ny_plan.specs.Units.{Part as PlanPart, parts_in_turn, parts_in, mixed}
+use Rattle.ny_plan.specs.Units.{Part as PlanPart, parts_in, mixed}
 use Rattle.ny_plan.specs.Plan as plans
 use Rattle.ny_plan.specs.Plan.{made_at, made}
 use Rattle.ny_match.specs.Matched.{Seats, IsSound, IsValue, AreNames}
@@ -34,7 +33,7 @@ use Rattle.ny_match.specs.Keeps.{KeepMade, KeepsMade}
 use Rattle.ny_match.proofs.MadeLemmas.{made-is}
 use Rattle.ny_match.proofs.TimesLemmas.{value_time, times, made_heard}
 use Rattle.ny_match.proofs.UnitLemmas.{Turns, Fits}
-use Rattle.ny_match.proofs.MixLemmas.{plan_parts, listed, counted, listed_are, listed_plan, counted_names_are, counted_plan}
+use Rattle.ny_match.proofs.MixLemmas.{listed, counted, listed_are, listed_plan, counted_names_are, counted_plan}
 use Rattle.ny_match.proofs.KeptLemmas.{listed_keep, counted_keep}
 use Rattle.ny_match.proofs.SeqLemmas.{seq_turn}
 use Rattle.ny_match.proofs.EvaluationLemmas.{IsInTurn, MatchesInTurn, HasKinds, evaluates_matching}

@@ -15,9 +15,9 @@ use Rattle.ny_warp.specs.Environment.{opening}
 use Rattle.ny_check.specs.Code.{Code}
 use Rattle.ny_heap.specs.declared.make.Make.TheVariants.{Resample as MakesResample}
 use Rattle.ny_heap.specs.declared.sound.Sound.{Sound}
-use Rattle.ny_heap.specs.Heap.{Reader, Kind, Made, Node, Waiting, HeapState, node_at, list_of, place_of}
+use Rattle.ny_heap.specs.Heap.{Reader, Kind, Made, Waiting, HeapState, list_of, place_of}
 use Rattle.ny_heap.specs.Reach.{HeapLaws, IsTrimmed}
-use Rattle.ny_heap.specs.Steps.{without_sounds, AddsNode, new_node, reader_of}
+use Rattle.ny_heap.specs.Steps.{without_sounds, new_node, reader_of}
 use Rattle.ny_hands.specs.declared.branch.Branch.{Branch}
 use Rattle.ny_hands.specs.Calls.{Shares, MakesUnit, Places, ReleasesAll, Brings, Stay, Change, IsSilent}
 use Rattle.ny_hands.specs.Hands.{Begins, AllBegin}
@@ -28,12 +28,12 @@ use Rattle.ny_trace.proofs.HeightLemmas.{ComesFrom, from_trimmed}
 use Rattle.ny_trace.proofs.RisingSeqLemmas.{from_placed}
 use Rattle.ny_heap.specs.Kinds.{UnitKind, Resample}
 use Rattle.ny_plan.specs.Rows.{RowSound, Input, Row, After, Step, row_at, no_row, given, shown, silent, input, unit}
-use Rattle.ny_plan.specs.Need.{Filled, need, is_open, has_come}
+use Rattle.ny_plan.specs.Need.{Filled, is_open, has_come}
 use Rattle.ny_plan.specs.Units.{first, brought}
 use Rattle.ny_heap.specs.Kinds.{unit_kind}
 use Rattle.ny_plan.specs.StandsFor.{ReadsFor, Keeps}
 use Rattle.ny_match.specs.Matched.{IsFirst, Seats, IsSound, IsFree, Awaits, IsUnit, Matched}
-use Rattle.ny_match.proofs.GrowLemmas.{first_self, first_then}
+use Rattle.ny_match.proofs.GrowLemmas.{first_then}
 use Rattle.ny_match.proofs.SeatLemmas.{SameRows, sound_later, seated, put_at}
 use Rattle.ny_match.proofs.BornLemmas.{Grew, grew_none, grew_from, free_less, free_later, new_rows, grew_added}
 
@@ -129,20 +129,23 @@ module _ (code : Code) (all : List Row) where
   pub awaits_none : (seats : Seats) (u : ℕ) (x : Row) (kind : Kind) (t : Timing) (inputs : List Sound) (rows : List Row) → length x.inputs ≤ length (map reader_of inputs) → IsFirst rows all → length rows ≡ seats.from u → length rows ≡ seats.upto u
       → (stop : ℕ) × ((new_node {B = Branch} kind t inputs []).pending ≡ 0 → stop ≡ (new_node {B = Branch} kind t inputs []).last_stop) × Awaits code all seats u x (new_node kind t inputs []) (length (map reader_of inputs) + 0) stop
   awaits_none seats u x kind t inputs rows le before from upto =
-      let gone : drop (length (map reader_of inputs) + 0) x.inputs ≡ [] = drop_all (length (map reader_of inputs) + 0) x.inputs (omega (arith, le)) in
-      ((new_node {B = Branch} kind t inputs []).last_stop, λ e. refl, record {
-        env = opening x.timing.rate;
-        parts = [];
-        rows = rows;
-        before = before;
-        from = from;
-        after = before;
-        upto = upto;
-        inputs = gone;
-        rate = opening_rate x.timing.rate;
-        are = tt;
-        keep = subst (λ (is : List Input). AllZip (λ p (i : Input). AllZip (Keeps seats.row) (Waiting.captured {B = Branch} p) i.captured) [] is) (sym gone) tt;
-      })
+      let gone : drop (length (map reader_of inputs) + 0) x.inputs ≡ [] = drop_all (length (map reader_of inputs) + 0) x.inputs (omega (arith, le)) in (
+        (new_node {B = Branch} kind t inputs []).last_stop,
+        λ e. refl,
+        record {
+          env = opening x.timing.rate;
+          parts = [];
+          rows = rows;
+          before = before;
+          from = from;
+          after = before;
+          upto = upto;
+          inputs = gone;
+          rate = opening_rate x.timing.rate;
+          are = tt;
+          keep = subst (λ (is : List Input). AllZip (λ p (i : Input). AllZip (Keeps seats.row) (Waiting.captured {B = Branch} p) i.captured) [] is) (sym gone) tt;
+        },
+      )
 
 -- ---- a step of the trace and of the plan
 
@@ -262,7 +265,7 @@ module _ (code : Code) (all : List Row) (filled : Filled) where
       none z fits = (
         seats,
         grew_from code all filled mid mid new seats seats (length rows) (length rows) (from_trimmed mid new spent (step.makes.none z)) (trimmed_block mid new spent (step.makes.none z))
-        (grew_none code all filled mid seats (length rows) (length rows) fits.matched),
+            (grew_none code all filled mid seats (length rows) (length rows) fits.matched),
         record { names = sym (ap (option_map seats.row) (step.makes.result.list ∙ ap (λ n. if nat_lt 0 n then Some step.makes.node else None) z)); timing = step.makes.result.timing },
       )
 
@@ -284,7 +287,7 @@ module _ (code : Code) (all : List Row) (filled : Filled) where
           (λ unfinished. awaits_none code all next n x kind t inputs rows whole before (sym (put_at seats.from n (length rows) n refl)) (sym (put_at seats.upto n (length rows) n refl))) in (
             next,
             grew_added code all filled mid new spent n (new_node kind t inputs []) seats (length rows) (length rows) (length rows) (length rows) high laws fits.matched adds fits.free (omega arith, omega (arith, size)) (omega arith, omega arith, omega (arith, size)) (inr (omega arith)) fits.first.short
-            (subst (λ z. IsUnit code new.block all next n z 0 (new_node kind t inputs [])) (sym here) fits_here),
+                (subst (λ z. IsUnit code new.block all next n z 0 (new_node kind t inputs [])) (sym here) fits_here),
             record {
               names = sym (ap (option_map next.row) (step.makes.result.list ∙ ap (λ b. if b then Some n else None) (lt-ltb 0 t.len some)) ∙ ap Some (put_at seats.row n (length rows) n refl));
               timing = step.makes.result.timing;

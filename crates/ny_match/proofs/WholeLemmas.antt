@@ -1,5 +1,5 @@
 -- A walk of a matched heap fills the rows that the plan fills: the laws of fills and of live blocks put into the walk.
-use Rattle.std.proofs.Common.{◌≡◌, ℕ, suc, ◌+◌, ◌≤◌, true, List, Some}
+use Rattle.std.proofs.Common.{◌≡◌, ℕ, suc, ◌≤◌, true, List, Some}
 use Rattle.std.specs.Prelude.{◌==◌}
 use Rattle.std.specs.List.{list_any}
 use Rattle.ny_check.specs.Code.{Code, IsOrdered}
@@ -25,8 +25,8 @@ use Rattle.ny_match.proofs.LiveLemmas.{matched_come, matched_live}
 use Rattle.ny_match.proofs.WalkLemmas.{walk_as, stop_as}
 
 module _ (code : Code) (ordered : IsOrdered code) (free : KeepsFree code) (tall : ℕ → ℕ) (is_tall : IsTall code tall) (rows : List Row) (all : AllRows rows) (top : ℕ) (last : ChannelsFrom top rows)
-  (reveal : (f : Filled) (old new : HeapState Branch) (seats : Seats) (u : ℕ) → HeapLaws old → AllPartsOf code old → PartTurn code old u new → Matched code rows f old seats
-      → (later : Seats) × Matched code rows f new later × ((v : ℕ) (x y : Node Branch) → node_at old v ≡ Some x → node_at new v ≡ Some y → later.row v ≡ seats.row v) × SameCounts old new) where
+    (reveal : (f : Filled) (old new : HeapState Branch) (seats : Seats) (u : ℕ) → HeapLaws old → AllPartsOf code old → PartTurn code old u new → Matched code rows f old seats
+    → (later : Seats) × Matched code rows f new later × ((v : ℕ) (x y : Node Branch) → node_at old v ≡ Some x → node_at new v ≡ Some y → later.row v ≡ seats.row v) × SameCounts old new) where
   -- a whole walk fills what the plan fills for its row
   pub walk_matched : (n : ℕ) (old new : HeapState Branch) (u left : ℕ) (us : List ℕ) (x : Node Branch) → node_at old u ≡ Some x → is_open old.block x ≡ true → IsRanked tall old u left → (f : Filled) (seats : Seats) → Rests code rows f old seats
       → Walks code n old u us new → WalksAs code tall rows f old new seats u (fill_row old.block rows (suc (seats.row u)) (seats.row u) f)

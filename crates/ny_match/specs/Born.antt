@@ -1,5 +1,5 @@
 -- What an evaluation leaves: the units that it makes are the rows that the plan makes.
-use Rattle.std.specs.Prelude.{◌≡◌, ◌⊎◌, ℕ, ◌<◌, ◌≤◌, List, [], ◌∷◌, length, None, Some}
+use Rattle.std.specs.Prelude.{◌≡◌, ℕ, ◌<◌, ◌≤◌, List, [], ◌∷◌, length, None, Some}
 use Rattle.ny_warp.specs.declared.env.Env.{Env}
 use Rattle.ny_check.specs.Code.{Code}
 use Rattle.ny_heap.specs.declared.sound.Sound.{Sound}
