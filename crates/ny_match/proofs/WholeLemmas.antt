@@ -12,21 +12,36 @@ use Rattle.ny_plan.specs.Need.{Filled}
 use Rattle.ny_plan.specs.Fills.{Fills, fill_row}
 use Rattle.ny_plan.specs.Peak.{live_before}
 use Rattle.ny_plan.specs.Order.{AllRows}
+use Rattle.ny_trace.specs.Evaluates.{Evaluates}
 use Rattle.ny_trace.specs.Heights.{IsTall}
-use Rattle.ny_trace.specs.Laws.{KeepsFree}
-use Rattle.ny_walk.specs.Walk.{PartTurn, Walks}
+use Rattle.ny_trace.specs.Laws.{KeepsFree, IsLawful}
+use Rattle.ny_trace.proofs.EvaluationLemmas.{evaluates_lawful}
+use Rattle.ny_walk.specs.Walk.{EvaluatesIn, PartTurn, Walks}
 use Rattle.ny_walk.specs.Stops.{StopsAtFull}
 use Rattle.ny_walk.specs.Parts.{AllPartsOf}
 use Rattle.ny_walk.specs.Below.{IsRanked}
 use Rattle.ny_match.specs.Matched.{Seats, Matched}
+use Rattle.ny_match.specs.Born.{IsMatching}
 use Rattle.ny_match.specs.Walking.{ChannelsFrom, Rests, WalksAs}
 use Rattle.ny_match.proofs.FillLemmas.{Fills-matched}
 use Rattle.ny_match.proofs.LiveLemmas.{matched_come, matched_live}
+use Rattle.ny_match.proofs.RevealLemmas.{reveal_matched}
 use Rattle.ny_match.proofs.WalkLemmas.{walk_as, stop_as}
 
-module _ (code : Code) (ordered : IsOrdered code) (free : KeepsFree code) (tall : ℕ → ℕ) (is_tall : IsTall code tall) (rows : List Row) (all : AllRows rows) (top : ℕ) (last : ChannelsFrom top rows)
-  (reveal : (f : Filled) (old new : HeapState Branch) (seats : Seats) (u : ℕ) → HeapLaws old → AllPartsOf code old → PartTurn code old u new → Matched code rows f old seats
-      → (later : Seats) × Matched code rows f new later × ((v : ℕ) (x y : Node Branch) → node_at old v ≡ Some x → node_at new v ≡ Some y → later.row v ≡ seats.row v) × SameCounts old new) where
+module _ (code : Code) (ordered : IsOrdered code) (free : KeepsFree code) (match : (n : ℕ) → IsMatching code (Evaluates code n)) (tall : ℕ → ℕ) (is_tall : IsTall code tall) (rows : List Row) (all : AllRows rows) (top : ℕ) (last : ChannelsFrom top rows) where
+  lawful_in : IsLawful code (EvaluatesIn code)
+  lawful_in e env names old new s t inside laws named = evaluates_lawful code ordered free t.0 e env names old new s t.1 inside laws named
+
+  matching_in : IsMatching code (EvaluatesIn code)
+  matching_in e env names old new s t = match t.0 e env names old new s t.1
+
+  -- a part that is revealed
+  pub reveal : (f : Filled) (old new : HeapState Branch) (seats : Seats) (u : ℕ) → HeapLaws old → AllPartsOf code old → PartTurn code old u new → Matched code rows f old seats
+      → (later : Seats) × Matched code rows f new later × ((v : ℕ) (x y : Node Branch) → node_at old v ≡ Some x → node_at new v ≡ Some y → later.row v ≡ seats.row v) × SameCounts old new
+  reveal f old new seats u laws parts turn m =
+      let r = reveal_matched code (EvaluatesIn code) lawful_in matching_in rows f old new u turn.turn laws turn.inside seats m in
+      (r.0, r.1, (λ v x y at now. r.2 v x at), r.3)
+
   -- a whole walk fills what the plan fills for its row
   pub walk_matched : (n : ℕ) (old new : HeapState Branch) (u left : ℕ) (us : List ℕ) (x : Node Branch) → node_at old u ≡ Some x → is_open old.block x ≡ true → IsRanked tall old u left → (f : Filled) (seats : Seats) → Rests code rows f old seats
       → Walks code n old u us new → WalksAs code tall rows f old new seats u (fill_row old.block rows (suc (seats.row u)) (seats.row u) f)
