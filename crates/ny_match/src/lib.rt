@@ -5,6 +5,10 @@
 
 mod channels;
 mod fills;
+mod reveals;
+mod walks;
 
 pub use channels::channel_laws;
 pub use fills::fill_laws;
+pub use reveals::{keep_law, reveal_law};
+pub use walks::walk_law;
