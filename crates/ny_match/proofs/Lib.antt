@@ -26,7 +26,7 @@ pub mod OrderLemmas
 pub mod CountingLemmas
 pub mod WantedLemmas
 pub mod WalkLemmas
-pub mod WholeLemmas
 pub mod RevealLemmas
 pub mod AsksLemmas
 pub mod AskedLemmas
+pub mod WholeLemmas
