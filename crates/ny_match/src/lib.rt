@@ -6,9 +6,11 @@
 mod channels;
 mod evaluates;
 mod fills;
-mod keeps;
+mod reveals;
+mod walks;
 
 pub use channels::channel_laws;
 pub use evaluates::evaluation_laws;
 pub use fills::fill_laws;
-pub use keeps::kept_law;
+pub use reveals::{keep_law, reveal_law};
+pub use walks::walk_law;

@@ -6,11 +6,9 @@ ghost use Rattle.ny_hands.specs.declared.branch.Branch.{Branch};
 ghost use Rattle.ny_hands.specs.Counts.{SameCounts};
 ghost use Rattle.ny_plan.specs.Rows.{Row};
 ghost use Rattle.ny_plan.specs.Need.{Filled};
-ghost use Rattle.ny_trace.specs.Evaluates.{Evaluates};
 ghost use Rattle.ny_trace.specs.Laws.{KeepsFree};
 ghost use Rattle.ny_walk.specs.Walk.{PartTurn};
 ghost use Rattle.ny_match.specs.Matched.{Seats, Matched};
-ghost use Rattle.ny_match.specs.Born.{IsMatching};
 ghost use Rattle.ny_match.specs.Keeps.{KeepsMade};
 
 use ny_check::Program;
@@ -27,5 +25,5 @@ pub fn keep_law(program: &Program)
 /// A part that falls due (`docs/DEFINITIONS.md`, "The match"): it makes the rows that waited for it and is the next input of its row. Every
 /// unit that was there is the row that it was, and no block is filled.
 pub fn reveal_law()
-    ensures reveals { (code : Code) → IsOrdered code → KeepsFree code → ((n : ℕ) → IsMatching code (Evaluates code n)) → (all : List Row) (f : Filled) (old new : HeapState Branch) (seats : Seats) (u : ℕ) → HeapLaws old → PartTurn code old u new → Matched code all f old seats → (later : Seats) × Matched code all f new later × ((v : ℕ) (x : Node Branch) → node_at old v ≡ Some x → later.row v ≡ seats.row v) × SameCounts old new }
+    ensures reveals { (code : Code) → IsOrdered code → KeepsFree code → KeepsMade code → (all : List Row) (f : Filled) (old new : HeapState Branch) (seats : Seats) (u : ℕ) → HeapLaws old → PartTurn code old u new → Matched code all f old seats → (later : Seats) × Matched code all f new later × ((v : ℕ) (x : Node Branch) → node_at old v ≡ Some x → later.row v ≡ seats.row v) × SameCounts old new }
 {}
