@@ -1,5 +1,5 @@
 -- What an expression makes depends on the names that are free in it, and on those that its parts in turn keep.
-use Rattle.std.proofs.Common.{◌≡◌, ◌⊎◌, inl, inr, ℕ, zero, suc, ◌+◌, ◌*◌, ◌<◌, length, Bool, true, false, not, List, [], ◌∷◌, ◌++◌, map, zip, Option, get_or, refl, sym, ap, ◌∙◌, pos, arith}
+use Rattle.std.proofs.Common.{◌≡◌, ℕ, zero, suc, ◌+◌, ◌*◌, ◌<◌, length, Bool, true, false, not, List, [], ◌∷◌, ◌++◌, map, zip, Option, get_or, refl, ap, ◌∙◌, pos, arith}
 use Rattle.std.specs.Prelude.{nat_lt, ◌||◌, ◌&&◌, if◌then◌else◌, flat_map}
 use Rattle.std.specs.List.{list_any, range_with_len}
 use Rattle.std.specs.Option.{unwrap_or}
@@ -7,7 +7,6 @@ use Rattle.std.proofs.Math.Path.{fun_ext}
 use Rattle.std.proofs.lemmas.Bool.{eq-eqb, ltb-true}
 use Rattle.ny_warp.specs.declared.env.Env.{Env}
 use Rattle.ny_scope.specs.Scopes.{last_of}
-use Rattle.ny_resolve.specs.declared.builtin.Order.{Order}
 use Rattle.ny_resolve.specs.declared.builtin.Order.TheVariants as order
 use Rattle.ny_resolve.specs.declared.term.NameId.{NameId}
 use Rattle.ny_resolve.specs.Keys.{same_name}
@@ -22,7 +21,7 @@ use Rattle.ny_check.specs.declared.value.Value.TheVariants.{Number, Sound}
 use Rattle.ny_check.specs.Code.{Code, node_at, function_at, IsBelow, AllBelow, BindsBelow, IsChangeBelow, IsOrdered}
 use Rattle.ny_check.specs.Recursion.{below, turns, by_smaller}
 use Rattle.ny_check.specs.Values.{scalar_of, scalars_of, is_true, number_of, number_in, test_of}
-use Rattle.ny_check.specs.Families.{effect_sound, leaf_time, leaf_sound, changed_env}
+use Rattle.ny_check.specs.Families.{effect_sound, changed_env}
 use Rattle.ny_check.specs.FreeNames.{Agree, in_any, in_block, in_change, free_node, is_free}
 use Rattle.ny_check.proofs.Smaller.{below-at, by_smaller-is}
 use Rattle.ny_check.proofs.Agreeing.{agree_left, agree_right, agree_push, agree_scalars}
@@ -31,7 +30,7 @@ use Rattle.ny_check.proofs.OperatorNodes.{waiting}
 use Rattle.ny_hands.specs.Kinds.{kind_of_effect}
 use Rattle.ny_plan.specs.Rows.{RowSound, Step, given, and_then, each, silent, input}
 use Rattle.ny_plan.specs.Units.{Part, leaf_made, row_over, brought, paired, negated, cued, parts_in, parts_together, mixed}
-use Rattle.ny_plan.specs.Plan.{Names, Makes, sound_in, value_by, value_of, names_after, sounds_of, captured, part_of, repeated_parts, number, made_at, made}
+use Rattle.ny_plan.specs.Plan.{Names, Makes, sound_in, value_by, value_of, names_after, sounds_of, part_of, repeated_parts, number, made_at, made}
 
 -- ---- the names that it asks for
 

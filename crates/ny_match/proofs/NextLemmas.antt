@@ -1,5 +1,5 @@
 -- The next part of a sequence, evaluated and placed, is the plan's next part.
-use Rattle.std.proofs.Common.{◌≡◌, inl, inr, ℕ, zero, suc, ◌+◌, ◌<◌, ◌≤◌, List, [], ◌∷◌, length, map, get_or, Option, None, Some, slice_get, refl, sym, ap, subst, ◌∙◌, arith}
+use Rattle.std.proofs.Common.{◌≡◌, ℕ, zero, suc, ◌<◌, List, [], ◌∷◌, length, map, get_or, Some, slice_get, sym, ap, ◌∙◌, arith}
 use Rattle.std.specs.Option.{option_map}
 use Rattle.ny_num.specs.Grid.{index_at}
 use Rattle.ny_num.specs.Sound.{placed_timing}
@@ -12,7 +12,7 @@ use Rattle.ny_check.specs.declared.value.Value.{Value}
 use Rattle.ny_check.specs.declared.value.Value.TheVariants.{Number, Sound as SoundOf}
 use Rattle.ny_check.specs.Code.{Code}
 use Rattle.ny_heap.specs.declared.sound.Sound.{Sound}
-use Rattle.ny_heap.specs.Heap.{Captured, HeapState, list_of}
+use Rattle.ny_heap.specs.Heap.{Captured, HeapState}
 use Rattle.ny_heap.specs.Reach.{HeapLaws}
 use Rattle.ny_heap.specs.Steps.{captured_of}
 use Rattle.ny_hands.specs.declared.branch.Branch.{Branch}
@@ -31,7 +31,7 @@ use Rattle.ny_trace.specs.Laws.{IsLawful}
 use Rattle.ny_trace.specs.Reveals.{no_sound, framed, frame}
 use Rattle.ny_match.specs.Matched.{IsFirst, Seats, IsSound, IsValue, AreNames, IsKeptValue, AreKeptNames}
 use Rattle.ny_match.specs.Born.{IsMatching}
-use Rattle.ny_match.proofs.GrowLemmas.{first_then, grows_brought, made_grows}
+use Rattle.ny_match.proofs.GrowLemmas.{grows_brought, made_grows}
 use Rattle.ny_match.proofs.BornLemmas.{Grew, grew_of, grew_then}
 use Rattle.ny_match.proofs.UnitLemmas.{Turns, Fits, fits_first, fits_next, brought_turn, placed_turn}
 

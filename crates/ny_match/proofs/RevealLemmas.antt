@@ -1,5 +1,5 @@
 -- A part that falls due is the next input of its row, and what it makes are the rows that waited for it.
-use Rattle.std.proofs.Common.{◌≡◌, ◌≢◌, ◌⊎◌, inl, inr, ℕ, zero, suc, ◌+◌, ◌-◌, ◌*◌, ◌<◌, ◌≤◌, Bool, true, false, nat_lt, List, [], ◌∷◌, ◌++◌, length, map, drop, get_or, Option, None, Some, slice_get, refl, sym, ap, subst, ◌∙◌, arith}
+use Rattle.std.proofs.Common.{◌≡◌, ◌≢◌, ◌⊎◌, inl, inr, ℕ, zero, suc, ◌+◌, ◌-◌, ◌*◌, ◌<◌, ◌≤◌, Bool, true, false, List, [], ◌∷◌, ◌++◌, length, map, drop, Option, None, Some, slice_get, refl, sym, ap, subst, ◌∙◌, arith}
 use Rattle.std.specs.Prelude.{slice_index}
 use Rattle.std.specs.Option.{option_map}
 use Rattle.std.specs.List.{AllZip, AllByRecursion}
@@ -18,8 +18,8 @@ use Rattle.ny_check.specs.Code.{Code}
 use Rattle.ny_heap.specs.declared.sound.Sound.{Sound}
 use Rattle.ny_heap.specs.Heap.{Reader, Waiting, Node, HeapState, node_at, input_at, list_of, place_of, is_open as heap_open}
 use Rattle.ny_heap.specs.Reach.{HeapLaws}
-use Rattle.ny_heap.specs.Steps.{reader_of, waiting_of, without_sounds}
-use Rattle.ny_heap.specs.Revealing.{with_promise, needs_part}
+use Rattle.ny_heap.specs.Steps.{reader_of, waiting_of}
+use Rattle.ny_heap.specs.Revealing.{with_promise}
 use Rattle.ny_hands.specs.declared.branch.Branch.{Branch}
 use Rattle.ny_hands.specs.Counts.{SameCounts}
 use Rattle.ny_hands.specs.Hands.{IsLike}
@@ -41,7 +41,7 @@ use Rattle.ny_match.specs.Born.{IsMatching}
 use Rattle.ny_match.proofs.GrowLemmas.{first_then, made_grows, grows_next, grows_after, PartGrows}
 use Rattle.ny_match.proofs.SeatLemmas.{UsesSame, uses_same, awaits_later, unit_later, unit_like, matched_from, put, put_at, put_else}
 use Rattle.ny_match.proofs.BornLemmas.{Grew}
-use Rattle.ny_match.proofs.UnitLemmas.{Turns, Fits, grew_released}
+use Rattle.ny_match.proofs.UnitLemmas.{Turns, grew_released}
 use Rattle.ny_match.proofs.NextLemmas.{frame_names, next_turn}
 use Rattle.ny_match.proofs.FillLemmas.{awaits_as, unit_as}
 use Rattle.ny_match.proofs.LiveLemmas.{opened_as}
@@ -95,15 +95,15 @@ first_coming code all seats u x unit p rest at stop waits w = by_parts w.parts (
       qs,
       w.rows,
       subst (λ (e : ExprId). Coming code all seats.row (seats.from u) (seats.upto u) x p rest at stop p.branch.env e q.1 qs w.rows) (sym are.0.expr)
-      (subst (λ (env : Env). Coming code all seats.row (seats.from u) (seats.upto u) x p rest at stop env q.0 q.1 qs w.rows) (sym are.0.there)
-      (record { from = w.from; after = after; upto = upto; inputs = inputs; rate = w.rate; names = are.0.names; are = are.1; keep = keep })),
+          (subst (λ (env : Env). Coming code all seats.row (seats.from u) (seats.upto u) x p rest at stop env q.0 q.1 qs w.rows) (sym are.0.there)
+          (record { from = w.from; after = after; upto = upto; inputs = inputs; rate = w.rate; names = are.0.names; are = are.1; keep = keep })),
     )
 
 -- ---- the turn
 
 module _ (code : Code) (D : Trace) (law : IsLawful code D) (match : IsMatching code D) (all : List Row) (f : Filled) (old mid : HeapState Branch) (u : ℕ) (s : Sound) (turn : PartTurn D old mid u s) (laws : HeapLaws old) (inside : turn.branch.expr.0 < length code.nodes)
-  (seats : Seats) (m : Matched code all f old seats) (ns : plans.Names) (qs : List Part) (rows : List Row)
-  (c : Coming code all seats.row (seats.from u) (seats.upto u) (row_at all (seats.row u)) (waiting_of (turn.branch, turn.captured)) turn.takes.hands.rest (length turn.takes.hands.unit.inputs) turn.takes.hands.unit.last_stop turn.branch.env turn.branch.expr ns qs rows) where
+    (seats : Seats) (m : Matched code all f old seats) (ns : plans.Names) (qs : List Part) (rows : List Row)
+    (c : Coming code all seats.row (seats.from u) (seats.upto u) (row_at all (seats.row u)) (waiting_of (turn.branch, turn.captured)) turn.takes.hands.rest (length turn.takes.hands.unit.inputs) turn.takes.hands.unit.last_stop turn.branch.env turn.branch.expr ns qs rows) where
   abbrev unit : Node Branch
   unit = turn.takes.hands.unit
 
@@ -188,7 +188,7 @@ module _ (code : Code) (D : Trace) (law : IsLawful code D) (match : IsMatching c
     rate = c.rate;
     are = subst (λ ws. AllZip (IsPart seats.row turn.branch.env) ws qs) (sym rest_is) c.are;
     keep = subst (λ ws. AllZip (λ p (i : Input). AllZip (Keeps seats.row) (Waiting.captured p) i.captured) ws (drop (length unit.inputs + (unit.pending + 1)) x.inputs)) (sym rest_is)
-    (subst (λ is. AllZip (λ p (i : Input). AllZip (Keeps seats.row) (Waiting.captured p) i.captured) turn.takes.hands.rest is) (sym (ap (λ n. drop n x.inputs) at_next ∙ inputs_more)) kept_rest);
+        (subst (λ is. AllZip (λ p (i : Input). AllZip (Keeps seats.row) (Waiting.captured p) i.captured) turn.takes.hands.rest is) (sym (ap (λ n. drop n x.inputs) at_next ∙ inputs_more)) kept_rest);
   }
     where
       kept_rest : AllZip (λ p (i : Input). AllZip (Keeps seats.row) (Waiting.captured p) i.captured) turn.takes.hands.rest (map (counted_from x.timing.start) others.gives)
@@ -391,9 +391,12 @@ module _ (code : Code) (D : Trace) (law : IsLawful code D) (match : IsMatching c
       come = more_come;
       readers = more_readers;
       inputs = more_inputs;
-      awaits = λ opened.
-          (s.timing.stop, (λ none. refl), awaits_as code all later u x (with_promise unit) more (length unit.inputs + (unit.pending + 1)) (length (unit.inputs ++ reader_of s ∷ []) + unit.pending) s.timing.stop refl (omega (arith, one_longer))
-          (subst (λ n. Awaits code all later u x (with_promise unit) (length unit.inputs + (unit.pending + 1)) n) (sym (ap (λ (t : Timing). t.stop) sound.timing)) awaits_still));
+      awaits = λ opened. (
+        s.timing.stop,
+        (λ none. refl),
+        awaits_as code all later u x (with_promise unit) more (length unit.inputs + (unit.pending + 1)) (length (unit.inputs ++ reader_of s ∷ []) + unit.pending) s.timing.stop refl (omega (arith, one_longer))
+            (subst (λ n. Awaits code all later u x (with_promise unit) (length unit.inputs + (unit.pending + 1)) n) (sym (ap (λ (t : Timing). t.stop) sound.timing)) awaits_still),
+      );
     }
 
     module _ (new : HeapState Branch) (attaches : AttachesPart mid new u s) where
@@ -439,8 +442,7 @@ pub reveal_matched : (code : Code) (D : Trace) (law : IsLawful code D) (match : 
     → (later : Seats) × Matched code all f new later × ((v : ℕ) (x : Node Branch) → node_at old v ≡ Some x → later.row v ≡ seats.row v) × SameCounts old new
 reveal_matched code D law match all f old new u turn laws inside seats m =
     let c = waits_first in
-    let t = turned code D law match all f old turn.mid u turn.sound turn.part laws inside seats m c.0 c.1 c.2 c.3 in
-    (
+    let t = turned code D law match all f old turn.mid u turn.sound turn.part laws inside seats m c.0 c.1 c.2 c.3 in (
       t.0,
       attached_matched code D law match all f old turn.mid u turn.sound turn.part laws inside seats m c.0 c.1 c.2 c.3 t.0 t.1 t.2 new turn.attaches,
       row_kept code D law match all f old turn.mid u turn.sound turn.part laws inside seats m c.0 c.1 c.2 c.3 t.0 t.1 t.2,

@@ -1,12 +1,12 @@
 -- A walk fills the rows that the plan fills, in the same order, and finds so many blocks live before each.
-use Rattle.std.proofs.Common.{◌≡◌, ◌⊎◌, inl, inr, ℕ, zero, suc, ◌+◌, ◌-◌, ◌<◌, ◌≤◌, Bool, true, false, nat_lt, IsTrue, List, [], ◌∷◌, ◌++◌, length, Option, None, Some, slice_get, refl, sym, ap, subst, ◌∙◌, arith}
+use Rattle.std.proofs.Common.{◌≡◌, ◌⊎◌, inl, inr, ℕ, zero, suc, ◌+◌, ◌-◌, ◌<◌, ◌≤◌, Bool, true, false, nat_lt, List, [], ◌∷◌, ◌++◌, length, Option, None, Some, slice_get, refl, sym, ap, subst, ◌∙◌, arith}
 use Rattle.std.specs.Prelude.{slice_index, slice_set, ◌||◌, ◌==◌}
 use Rattle.std.specs.Option.{option_map_or}
 use Rattle.std.specs.List.{list_any}
 use Rattle.std.proofs.lemmas.List.{append-nil}
 use Rattle.std.proofs.lemmas.Bool.{true≢false, eq-eqb}
 use Rattle.ny_check.specs.Code.{Code, IsOrdered}
-use Rattle.ny_heap.specs.Heap.{Node, HeapState, node_at, is_open, live_of, free_of}
+use Rattle.ny_heap.specs.Heap.{Node, HeapState, node_at, is_open, live_of}
 use Rattle.ny_heap.specs.Reach.{HeapLaws}
 use Rattle.ny_heap.specs.Steps.{want_of}
 use Rattle.ny_hands.specs.declared.branch.Branch.{Branch}
@@ -18,7 +18,7 @@ use Rattle.ny_plan.specs.Liveness.{live}
 use Rattle.ny_plan.specs.Peak.{live_before}
 use Rattle.ny_plan.specs.Fills.{Fills, no_fills, followed_by, for_each, fill_of, fill_input, fill_row}
 use Rattle.ny_plan.specs.Order.{IsInputOf, AllRows}
-use Rattle.ny_plan.specs.Demand.{IsEnough, IsWithin, Raises}
+use Rattle.ny_plan.specs.Demand.{IsEnough, Raises}
 use Rattle.ny_plan.specs.StandsFor.{IsRoot}
 use Rattle.ny_plan.proofs.NeedLemmas.{item_of}
 use Rattle.ny_plan.proofs.FillLemmas.{raises_fill}
@@ -26,7 +26,7 @@ use Rattle.ny_trace.specs.Heights.{IsTall, Ranks}
 use Rattle.ny_trace.specs.Laws.{KeepsFree}
 use Rattle.ny_walk.specs.Walk.{FillTurn, PartTurn, Walk, RevealsParts, WalksWants, WalksInOrder}
 use Rattle.ny_walk.specs.Parts.{AllPartsOf}
-use Rattle.ny_walk.specs.Below.{IsSettled, SettledButOne, IsRanked, Below, Walked, Revealed, WantsSoFar, RevealsSoFar}
+use Rattle.ny_walk.specs.Below.{IsRanked, Below, WantsSoFar, RevealsSoFar}
 use Rattle.ny_walk.specs.Stops.{StopsHere, StopsBelow, StopsInOrder}
 use Rattle.ny_walk.proofs.BelowLemmas.{held_above}
 use Rattle.ny_walk.proofs.TurnLemmas.{part_reveals, wants_so_far}
@@ -50,9 +50,10 @@ roots_kept rows top f g old new seats later last block marks same kept roots = r
       let before : 0 < marks_at old v j = omega (arith, read, marks v j) in
       let was = roots.outside v j before in
       let row = same v j before in
-      let c = kept (seats.row v) (last.channels (seats.row v) was.0.0) in
-      (subst (λ n. IsRoot new.block (row_at rows (later.row v)) n) (ap (slice_index g) (sym row) ∙ refl) (subst (λ w. IsRoot new.block (row_at rows w) (slice_index g (seats.row v))) (sym row) (subst (λ b. IsRoot b (row_at rows (seats.row v)) (slice_index g (seats.row v))) (sym block) (subst (λ n. IsRoot old.block (row_at rows (seats.row v)) n) (sym c) was.0))),
-        was.1 ∙ sym c ∙ ap (slice_index g) (sym row));
+      let c = kept (seats.row v) (last.channels (seats.row v) was.0.0) in (
+        subst (λ n. IsRoot new.block (row_at rows (later.row v)) n) (ap (slice_index g) (sym row) ∙ refl) (subst (λ w. IsRoot new.block (row_at rows w) (slice_index g (seats.row v))) (sym row) (subst (λ b. IsRoot b (row_at rows (seats.row v)) (slice_index g (seats.row v))) (sym block) (subst (λ n. IsRoot old.block (row_at rows (seats.row v)) n) (sym c) was.0))),
+        was.1 ∙ sym c ∙ ap (slice_index g) (sym row),
+      );
   there = λ c root.
       let high = kept c (last.channels c root.0) in
       let old_root : IsRoot old.block (row_at rows c) (slice_index f c) = subst (λ b. IsRoot b (row_at rows c) (slice_index f c)) block (subst (λ n. IsRoot new.block (row_at rows c) n) high root) in
@@ -87,8 +88,8 @@ pub record SoFar (code : Code) (tall : ℕ → ℕ) (rows : List Row) (f : Fille
   pub higher : (rank : ℕ → ℕ) → Ranks tall old rank → (v : ℕ) (x : Node Branch) → node_at old v ≡ Some x → rank u ≤ rank v → later.row v ≡ seats.row v
 
 module _ (code : Code) (ordered : IsOrdered code) (free : KeepsFree code) (tall : ℕ → ℕ) (is_tall : IsTall code tall) (rows : List Row) (all : AllRows rows) (top : ℕ) (last : ChannelsFrom top rows)
-  (come : (f : Filled) (h : HeapState Branch) (seats : Seats) → Rests code rows f h seats → (u k : ℕ) (unit : Node Branch) (i : Input) → node_at h u ≡ Some unit → is_open h.block unit ≡ true
-      → slice_get (row_at rows (seats.row u)).inputs k ≡ Some i → has_come h.block (slice_index f (seats.row u)) i ≡ nat_lt k (length unit.inputs)) where
+    (come : (f : Filled) (h : HeapState Branch) (seats : Seats) → Rests code rows f h seats → (u k : ℕ) (unit : Node Branch) (i : Input) → node_at h u ≡ Some unit → is_open h.block unit ≡ true
+    → slice_get (row_at rows (seats.row u)).inputs k ≡ Some i → has_come h.block (slice_index f (seats.row u)) i ≡ nat_lt k (length unit.inputs)) where
   so_none : (f : Filled) (h : HeapState Branch) (seats : Seats) (u : ℕ) → Rests code rows f h seats → SoFar code tall rows f h h seats u
   so_none f h seats u rests = record {
     first = no_fills f;
@@ -243,12 +244,12 @@ any_right p (x ∷ xs) ys e = by_test (any_right p xs ys e) (p x)
     by_test later false = later
 
 module _ (code : Code) (ordered : IsOrdered code) (free : KeepsFree code) (tall : ℕ → ℕ) (is_tall : IsTall code tall) (rows : List Row) (all : AllRows rows) (top : ℕ) (last : ChannelsFrom top rows)
-  (come : (f : Filled) (h : HeapState Branch) (seats : Seats) → Rests code rows f h seats → (u k : ℕ) (unit : Node Branch) (i : Input) → node_at h u ≡ Some unit → is_open h.block unit ≡ true
-      → slice_get (row_at rows (seats.row u)).inputs k ≡ Some i → has_come h.block (slice_index f (seats.row u)) i ≡ nat_lt k (length unit.inputs))
-  (lives : (f : Filled) (h : HeapState Branch) (seats : Seats) → Rests code rows f h seats → live_of h ≡ live h.block rows f)
-  (fill : (f : Filled) (old new : HeapState Branch) (seats : Seats) (u : ℕ) → Rests code rows f old seats → FillTurn old new u → Matched code rows (slice_set f (seats.row u) (slice_index f (seats.row u) + 1)) new seats)
-  (reveal : (f : Filled) (old new : HeapState Branch) (seats : Seats) (u : ℕ) → HeapLaws old → AllPartsOf code old → PartTurn code old u new → Matched code rows f old seats
-      → (later : Seats) × Matched code rows f new later × ((v : ℕ) (x y : Node Branch) → node_at old v ≡ Some x → node_at new v ≡ Some y → later.row v ≡ seats.row v) × SameCounts old new) where
+    (come : (f : Filled) (h : HeapState Branch) (seats : Seats) → Rests code rows f h seats → (u k : ℕ) (unit : Node Branch) (i : Input) → node_at h u ≡ Some unit → is_open h.block unit ≡ true
+    → slice_get (row_at rows (seats.row u)).inputs k ≡ Some i → has_come h.block (slice_index f (seats.row u)) i ≡ nat_lt k (length unit.inputs))
+    (lives : (f : Filled) (h : HeapState Branch) (seats : Seats) → Rests code rows f h seats → live_of h ≡ live h.block rows f)
+    (fill : (f : Filled) (old new : HeapState Branch) (seats : Seats) (u : ℕ) → Rests code rows f old seats → FillTurn old new u → Matched code rows (slice_set f (seats.row u) (slice_index f (seats.row u) + 1)) new seats)
+    (reveal : (f : Filled) (old new : HeapState Branch) (seats : Seats) (u : ℕ) → HeapLaws old → AllPartsOf code old → PartTurn code old u new → Matched code rows f old seats
+    → (later : Seats) × Matched code rows f new later × ((v : ℕ) (x y : Node Branch) → node_at old v ≡ Some x → node_at new v ≡ Some y → later.row v ≡ seats.row v) × SameCounts old new) where
   abbrev pub row_fills : Filled → HeapState Branch → Seats → ℕ → Fills
   row_fills f old seats u = fill_row old.block rows (suc (seats.row u)) (seats.row u) f
 
@@ -257,7 +258,7 @@ module _ (code : Code) (ordered : IsOrdered code) (free : KeepsFree code) (tall 
       → D old u us new → WalksAs code tall rows f old new seats u (row_fills f old seats u)
 
   module _ (n : ℕ) (lower : WalksLike (WalksInOrder (PartTurn code) n)) (old : HeapState Branch) (u left : ℕ) (x : Node Branch) (there : node_at old u ≡ Some x) (opened : is_open old.block x ≡ true) (ranked : IsRanked tall old u left)
-    (f : Filled) (seats : Seats) (rests : Rests code rows f old seats) where
+      (f : Filled) (seats : Seats) (rests : Rests code rows f old seats) where
     abbrev D : Walk
     D = WalksInOrder (PartTurn code) n
 
@@ -300,8 +301,7 @@ module _ (code : Code) (ordered : IsOrdered code) (free : KeepsFree code) (tall 
         let before = reveals_as a k filled steps.0 so walk steps.1 in
         let shows = part_reveals code ordered free tall is_tall steps.0 new u before.0.laws steps.2 in
         let after = reveal a.filled steps.0 new before.1.later u before.0.laws (before.0.parts rests.parts) steps.2 before.1.matched in
-        let ranks_now = before.0.drives ranked.rank ranked.ranks in
-        (
+        let ranks_now = before.0.drives ranked.rank ranked.ranks in (
           reveal_more code tall old steps.0 new u x rests.laws there before.0 shows,
           record {
             later = after.0;
@@ -397,12 +397,12 @@ module _ (code : Code) (ordered : IsOrdered code) (free : KeepsFree code) (tall 
           let F = input_fills old.block rows f (seats.row u) in
           let next = D y so.first.filled in
           let orders = so.begins ∙ followed_at so.first F (λ k. followed_by (D y k) F)
-              (lacks_first old.block D (row_at rows (seats.row u)) (slice_index f (seats.row u)) so.first.filled (Row.inputs (row_at rows (seats.row u))) y lack raises.1 raises.0.more) in
+          (lacks_first old.block D (row_at rows (seats.row u)) (slice_index f (seats.row u)) so.first.filled (Row.inputs (row_at rows (seats.row u))) y lack raises.1 raises.0.more) in
           let same = next_same code ordered free tall is_tall rows all top last come f old seats u left x there opened ranked rests mid y so low.0 block in
           let sub_next : list_any is_full (live_before old.block rows next.order so.first.filled) ≡ true =
-              subst (λ (a : Fills). list_any is_full (live_before old.block rows a.order so.first.filled) ≡ true) same
-              (subst (λ b. list_any is_full (live_before b rows (Fills.order (fill_row mid.block rows (suc y) y so.first.filled)) so.first.filled) ≡ true) block
-              (subst (λ p. list_any (λ n. n == p) (live_before mid.block rows (Fills.order (fill_row mid.block rows (suc y) y so.first.filled)) so.first.filled) ≡ true) so.counts.pool sub)) in
+          subst (λ (a : Fills). list_any is_full (live_before old.block rows a.order so.first.filled) ≡ true) same
+          (subst (λ b. list_any is_full (live_before b rows (Fills.order (fill_row mid.block rows (suc y) y so.first.filled)) so.first.filled) ≡ true) block
+          (subst (λ p. list_any (λ n. n == p) (live_before mid.block rows (Fills.order (fill_row mid.block rows (suc y) y so.first.filled)) so.first.filled) ≡ true) so.counts.pool sub)) in
           subst (λ (a : Fills). list_any is_full (live_before old.block rows (Fills.order (followed_by a (fill_of (seats.row u)))) f) ≡ true) (sym orders)
           (before_order (so.first.order ++ (next.order ++ Fills.order (F next.filled))) (seats.row u ∷ []) f
           (within_order so.first.order (next.order ++ Fills.order (F next.filled))

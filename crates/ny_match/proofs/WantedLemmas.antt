@@ -1,5 +1,5 @@
 -- What a unit wants is what its row lacks first.
-use Rattle.std.proofs.Common.{◌≡◌, ◌⊎◌, inl, inr, ℕ, zero, suc, ◌+◌, ◌-◌, ◌*◌, ◌/◌, ◌<◌, ◌≤◌, min, Bool, true, false, cond, nat_lt, List, [], ◌∷◌, length, get_or, Option, None, Some, slice_get, refl, sym, ap, subst, ◌∙◌, arith}
+use Rattle.std.proofs.Common.{◌≡◌, inl, inr, ℕ, zero, suc, ◌+◌, ◌-◌, ◌*◌, ◌<◌, ◌≤◌, Bool, true, false, cond, nat_lt, List, [], ◌∷◌, length, get_or, Option, None, Some, slice_get, refl, sym, ap, subst, ◌∙◌, arith}
 use Rattle.std.specs.Prelude.{slice_index}
 use Rattle.std.specs.Option.{option_map_or}
 use Rattle.std.proofs.lemmas.Bool.{cases_lt, lt-ltb, ltb-true, true≢false}
@@ -9,14 +9,13 @@ use Rattle.ny_num.specs.declared.timing.Timing.{Timing}
 use Rattle.ny_list.proofs.IndexLemmas.{same_some, none_some}
 use Rattle.ny_check.specs.Code.{Code}
 use Rattle.ny_heap.specs.Heap.{Reader, Node, HeapState, node_at, input_at, taken_after, blocks_of, is_open, computed_of}
-use Rattle.ny_heap.specs.Reach.{Uses, Read, HeapLaws}
+use Rattle.ny_heap.specs.Reach.{Read, HeapLaws}
 use Rattle.ny_heap.specs.Steps.{lacks, wants, want_of}
 use Rattle.ny_hands.specs.declared.branch.Branch.{Branch}
 use Rattle.ny_hands.proofs.OptionLemmas.{some_there}
 use Rattle.ny_plan.specs.Rows.{Input, Row, row_at}
 use Rattle.ny_plan.specs.Need.{Filled, takes_as, need, has_come}
 use Rattle.ny_plan.specs.Demand.{IsEnough}
-use Rattle.ny_plan.specs.StandsFor.{ReadsFor}
 use Rattle.ny_plan.proofs.FillLemmas.{blocks-le}
 use Rattle.ny_plan.proofs.StandsLemmas.{taken_alike}
 use Rattle.ny_walk.proofs.WantLemmas.{taken_within, short_is_open}
@@ -94,8 +93,8 @@ blocks_short : (block n filled : ℕ) → 0 < block → filled * block < n → f
 blocks_short block n filled some short = short_is_open block filled n some short
 
 module _ (code : Code) (rows : List Row) (f : Filled) (h : HeapState Branch) (seats : Seats) (laws : HeapLaws h) (matched : Matched code rows f h seats) (enough : IsEnough h.block rows f)
-  (come : (u k : ℕ) (unit : Node Branch) (i : Input) → node_at h u ≡ Some unit → is_open h.block unit ≡ true → slice_get (row_at rows (seats.row u)).inputs k ≡ Some i → has_come h.block (slice_index f (seats.row u)) i ≡ nat_lt k (length unit.inputs))
-  (u : ℕ) (x : Node Branch) (there : node_at h u ≡ Some x) (opened : is_open h.block x ≡ true) where
+    (come : (u k : ℕ) (unit : Node Branch) (i : Input) → node_at h u ≡ Some unit → is_open h.block unit ≡ true → slice_get (row_at rows (seats.row u)).inputs k ≡ Some i → has_come h.block (slice_index f (seats.row u)) i ≡ nat_lt k (length unit.inputs))
+    (u : ℕ) (x : Node Branch) (there : node_at h u ≡ Some x) (opened : is_open h.block x ≡ true) where
   abbrev X : Row
   X = row_at rows (seats.row u)
 

@@ -1,11 +1,10 @@
 -- What fills of the plan's rows leave of a heap's counts.
-use Rattle.std.specs.Prelude.{◌≡◌, ℕ, ◌+◌, ◌-◌, ◌<◌, ◌^◌, min, max, map, fold, List, [], ◌∷◌, slice_index}
+use Rattle.std.specs.Prelude.{◌≡◌, ℕ, ◌+◌, ◌-◌, ◌<◌, ◌^◌, min, max, map, fold, List, [], ◌∷◌}
 use Rattle.std.specs.List.{AllByRecursion}
-use Rattle.ny_heap.specs.Heap.{HeapState, live_of}
+use Rattle.ny_heap.specs.Heap.{HeapState}
 use Rattle.ny_hands.specs.declared.branch.Branch.{Branch}
 use Rattle.ny_plan.specs.Rows.{Row}
 use Rattle.ny_plan.specs.Need.{Filled}
-use Rattle.ny_plan.specs.Liveness.{live}
 use Rattle.ny_plan.specs.Peak.{live_before}
 
 -- a count of fills once these rows were filled: it stands still at its end

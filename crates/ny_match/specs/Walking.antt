@@ -1,5 +1,5 @@
 -- A walk of a heap, and what the plan fills for it.
-use Rattle.std.specs.Prelude.{◌≡◌, ℕ, ◌+◌, ◌<◌, ◌≤◌, Bool, true, List, length, Some, slice_index, slice_get}
+use Rattle.std.specs.Prelude.{◌≡◌, ℕ, ◌<◌, ◌≤◌, true, List, length, Some, slice_get}
 use Rattle.ny_check.specs.Code.{Code}
 use Rattle.ny_heap.specs.Heap.{Node, HeapState, node_at}
 use Rattle.ny_heap.specs.Reach.{HeapLaws}
