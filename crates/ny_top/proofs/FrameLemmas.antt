@@ -6,14 +6,14 @@ use Rattle.std.proofs.lemmas.List.{ext_get_or, get_or-map, length-map, get_or-ta
 use Rattle.std.proofs.lemmas.List.Concat.{flat_map-append}
 use Rattle.std.proofs.lemmas.List.Folds.{flat_map-map}
 use Rattle.std.proofs.lemmas.List.FromFn.{length-map-range_with_len, get_or-map-range_with_len, map-range_with_len_more}
-use Rattle.std.proofs.lemmas.Slice.{drop-append-drop}
+use Rattle.std.proofs.lemmas.Slice.{drop-append-drop, take-put_mid}
 use Rattle.ny_num.specs.Sound as sounds
 use Rattle.ny_num.specs.Sound.{silence, value_at}
 use Rattle.ny_check.specs.Channels.{channels, frame, frames, longest}
 use Rattle.ny_pull.specs.Engine.{EngineState}
 use Rattle.ny_num.proofs.PartAdded.{part_added}
 use Rattle.ny_wav.specs.WavFile.{frame_of}
-use Rattle.ny_wav.proofs.Frames.{frames_of-joined}
+use Rattle.ny_wav.proofs.Frames.{frames_of-joined, length-frame_of}
 use Rattle.ny_top.specs.Frames.{row, AreBlocks}
 use Rattle.ny_top.specs.Rounds.{frames_at, bytes_of_round}
 use Rattle.ny_top.proofs.PullLemmas.{next_multiple, one_more, fewer_blocks}
@@ -162,3 +162,12 @@ front_frames channels block count len xs first frames rest size is =
     ap (take (count * channels)) (take_at frames rest len size)
     ∙ ap (take (count * channels)) is
     ∙ take_at (rows channels block xs count) (drop (count * channels) first) (count * channels) (rows_length channels block xs count)
+
+-- ---- the buffer of bytes
+
+-- the bytes of samples are put behind what stands there
+pub put_behind : (at k n : ℕ) (bytes part : List ℕ) (xs : List ℤ) → part ≡ frame_of xs → n ≡ at + 2 * length xs → at + 2 * length xs ≤ length bytes
+    → take n (put_mid at k bytes part) ≡ take at bytes ++ frame_of xs
+put_behind at k n bytes part xs is size within =
+    take-put_mid at k bytes part n (size ∙ omega (arith, ap length is, length-frame_of xs)) (omega (arith, within))
+    ∙ ap (λ (ys : List ℕ). take at bytes ++ ys) is
