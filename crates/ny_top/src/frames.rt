@@ -15,6 +15,13 @@ use std::alloc::{AllocError, Global};
 /// longest that there is, and of many rounds of fewer channels or shorter blocks.
 const GATHERED: usize = 65536;
 
+/// How many bytes there is room for, where a round has `least`.
+fn bytes_room(least: usize) -> usize
+    ensures { least ≤ result }
+{
+    least.max(GATHERED)
+}
+
 /// Where rounds are made: a block of each channel, one after another; the frames of these blocks; and
 /// the bytes of rounds, of which those at the front, so many as `gathered` says, are still to be written.
 #[derive(Drop)]
@@ -35,7 +42,7 @@ pub(crate) fn make_buffers(alloc: Global, channels: u32, block: u32) -> Result<B
     let size = channels as usize * block as usize;
     let samples = vec![in alloc; Sample::ZERO; size]?;
     let frames = vec![in alloc; Sample::ZERO; size]?;
-    let bytes = vec![in alloc; 0; GATHERED]?;
+    let bytes = vec![in alloc; 0; bytes_room(2 * size)]?;
     Ok(Buffers {
         block: block as usize,
         samples,
