@@ -1,6 +1,7 @@
 -- A file that is written in rounds, and the engine that is pulled for it.
 use Rattle.std.proofs.Common.{◌≡◌, ℕ, zero, suc, ◌+◌, ◌-◌, ◌*◌, ◌<◌, ◌≤◌, ◌⊎◌, List, [], ◌∷◌, ◌++◌, map, take, drop, length, Some, Result, Ok, Err, OnOk, OnErr, IfErr, refl, sym, ap, subst, ◌∙◌, arith, ℤ, pos, slice_index, slice_index_or, sum, length-append, length-take, length-drop, inl, inr}
 use Rattle.std.specs.Int.{div_ceil}
+use Rattle.std.specs.Result.{IsErrAnd}
 use Rattle.std.specs.List.{flat_map}
 use Rattle.std.proofs.lemmas.Bool.{cases_lt}
 use Rattle.std.proofs.lemmas.List.{take-append-drop, take-append-le, take_all, append_assoc, append-nil, get_or_past, get_or-take, get_or_append_left, get_or-append_right}
@@ -325,7 +326,7 @@ nothing_yet e b old none = (
   [],
   sym (written-nothing old.created),
   (let no_blocks : 0 * e.heap.block ≡ 0 = omega arith in ap (λ n. flat_map frame_of (take n (frames_at e))) no_blocks)
-  ∙ sym (ap (λ n. take n b.bytes.items) none),
+      ∙ sym (ap (λ n. take n b.bytes.items) none),
 )
 
 pub rounds_begin : (e : EngineState) (b : Buffers) (old : HostState) (file : ℕ) → b.gathered ≡ 0 → IsUnderway 0 0 e → old.output ≡ Some file → RoundsSoFar e e 0 b old old file
@@ -379,3 +380,8 @@ err_on (Err e) P Q on p = on p
 pub if_err_on : {A E : Type 0} (r : Result A E) (P Q : E → Type 0) → ((e : E) → P e → Q e) → IfErr r P → IfErr r Q
 if_err_on (Ok x) P Q on p = tt
 if_err_on (Err e) P Q on p = on e p
+
+-- what holds of a fault that is passed on as it is
+pub err_passed : {A E : Type 0} (r : Result A E) (e : E) (P : E → Type 0) → IsErrAnd r (λ x. x ≡ e) → P e → IfErr r P
+err_passed (Ok x) e P is p = tt
+err_passed (Err x) e P is p = subst P (sym is) p

@@ -80,7 +80,12 @@ fn pull_channels(
 }
 
 /// The fault that a round ends with, which a pull gave: what is gathered is written first, and where that fails it is the write's.
-fn end_round<H: Host>(host: &mut H, file: u32, buffers: &mut Buffers, fault: RoundFault) -> RoundFault
+fn end_round<H: Host>(
+    host: &mut H,
+    file: u32,
+    buffers: &mut Buffers,
+    fault: RoundFault,
+) -> RoundFault
     requires open { (H.state host.old).output ≡ Some file }
     requires room { buffers.old.gathered ≤ length buffers.old.bytes.items }
     ensures counts { NoneFell (H.state host.old) (H.state host.new) }
@@ -123,8 +128,9 @@ fn round<H: Host>(
 {
     let block = buffers.block;
     let count = (engine.frames() as usize - round as usize * block).min(block);
-    if let Err(fault) = pull_channels(alloc, engine, block, buffers.samples.as_mut_slice()) {
-        return Err(end_round(host, file, buffers, fault));
+    match pull_channels(alloc, engine, block, buffers.samples.as_mut_slice()) {
+        Ok(()) => {}
+        Err(fault) => return Err(end_round(host, file, buffers, fault)),
     }
     match write_frames(host, file, engine.channels() as usize, count, buffers) {
         Ok(()) => Ok(()),

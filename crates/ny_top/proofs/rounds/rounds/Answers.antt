@@ -4,7 +4,7 @@ use Rattle.ny_check.specs.Channels.{channels, longest}
 use Rattle.ny_top.specs.Frames.{HasRoom}
 use Rattle.ny_top.specs.Rounds.{bytes_after}
 use Rattle.ny_top.proofs.PullLemmas.{none_left}
-use Rattle.ny_top.proofs.RoundLemmas.{on_err, gathered_whole, round_part, last_part, rounds_begin, rounds_on, pulled_out, wrote_all}
+use Rattle.ny_top.proofs.RoundLemmas.{on_err, err_passed, ends_rounds, gathered_whole, round_part, last_part, rounds_begin, rounds_on, pulled_out, wrote_all}
 use Rattle.ny_top.proofs.rounds.rounds.Goals as goal
 
 pub loop-n-init : goal.loop-n-init
@@ -56,3 +56,8 @@ pub returns-in-Err-clause-part : goal.returns-in-Err-clause-part
 returns-in-Err-clause-part g c =
     last_part c.args.engine.now c.loop-n.n c.loop-n.buffers (g.H.Host.state c.args.host.now) (g.H.Host.state c.loop-n.host) (g.H.Host.state c.flush.new.host)
     c.loop-n.invariant.0.wrote c.in-Err.ensures.part
+
+pub returns-in_err-round-clause-fault : goal.returns-in_err-round-clause-fault
+returns-in_err-round-clause-fault g c =
+    err_passed c.from_residual.result c.in_err-round.field-0.0 _ c.from_residual.ensures.1
+    (ends_rounds c.args.engine.now c.loop-n.engine c.round.new.engine c.loop-n.n c.loop-n.buffers (g.H.Host.state c.args.host.now) (g.H.Host.state c.loop-n.host) (g.H.Host.state c.round.new.host) _ c.loop-n.invariant.0.same c.loop-n.invariant.0.counts c.loop-n.invariant.0.quiet c.loop-n.invariant.0.wrote c.in_err-round.ensures.fault)
