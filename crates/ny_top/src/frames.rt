@@ -95,7 +95,7 @@ fn put_samples(samples: &[Sample], at: usize, bytes: &mut [u8])
     frame_bytes(samples, &mut bytes[at..at + 2 * samples.len()]);
 }
 
-/// Gathers the first `count` frames of the blocks in the buffers, behind what is gathered.
+/// Gathers the first `count` frames of the blocks of any number of channels.
 fn gather_frames(channels: usize, count: usize, buffers: &mut Buffers)
     requires room { HasRoom channels buffers.old.block buffers.old }
     requires count { count ≤ buffers.old.block }
@@ -113,6 +113,33 @@ fn gather_frames(channels: usize, count: usize, buffers: &mut Buffers)
     let frames = &buffers.frames.as_slice()[..count * channels];
     put_samples(frames, buffers.gathered, buffers.bytes.as_mut_slice());
     buffers.gathered += 2 * frames.len();
+}
+
+/// Gathers the first `count` samples of the block of one channel: there each sample is a frame.
+fn gather_samples(count: usize, buffers: &mut Buffers)
+    requires count { count ≤ length buffers.old.samples.items }
+    requires free { buffers.old.gathered + 2 * count ≤ length buffers.old.bytes.items }
+    ensures gathers { (channels : ℕ) → channels ≡ 1 → gathered_in buffers.new ≡ gathered_in buffers.old ++ flat_map frame_of (map (row channels buffers.old.block buffers.old.samples.items) (range_with_len 0 count)) }
+    ensures size { (channels block : ℕ) → HasRoom channels block buffers.old → HasRoom channels block buffers.new }
+{
+    let samples = &buffers.samples.as_slice()[..count];
+    put_samples(samples, buffers.gathered, buffers.bytes.as_mut_slice());
+    buffers.gathered += 2 * samples.len();
+}
+
+/// Gathers the first `count` frames of the blocks in the buffers, behind what is gathered.
+fn gather(channels: usize, count: usize, buffers: &mut Buffers)
+    requires room { HasRoom channels buffers.old.block buffers.old }
+    requires count { count ≤ buffers.old.block }
+    requires free { buffers.old.gathered + 2 * (channels * buffers.old.block) ≤ length buffers.old.bytes.items }
+    ensures gathers { gathered_in buffers.new ≡ gathered_in buffers.old ++ flat_map frame_of (map (row channels buffers.old.block buffers.old.samples.items) (range_with_len 0 count)) }
+    ensures size { HasRoom channels buffers.old.block buffers.new }
+{
+    if channels == 1 {
+        gather_samples(count, buffers);
+    } else {
+        gather_frames(channels, count, buffers);
+    }
 }
 
 /// Writes what is gathered, by one call.
@@ -192,7 +219,7 @@ pub(crate) fn write_frames<H: Host>(
 {
     match make_room(host, file, channels, buffers) {
         Ok(()) => {
-            gather_frames(channels, count, buffers);
+            gather(channels, count, buffers);
             Ok(())
         }
         Err(failed) => Err(failed),
