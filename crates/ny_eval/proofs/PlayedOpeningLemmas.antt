@@ -22,6 +22,7 @@ use Rattle.ny_trace.proofs.PlaysSettlingLemmas.{plays_settling}
 use Rattle.ny_walk.proofs.PlaysLemmas.{plays_parts, plays_fit}
 use Rattle.ny_trace.specs.Channels.{ChannelsTurn}
 use Rattle.ny_eval.specs.Opened.{IsEmpty, AreOpened}
+use Rattle.ny_eval.specs.Traced.{EvaluatesChannels}
 use Rattle.ny_eval.proofs.OpenedLemmas.{are_opened}
 use Rattle.ny_eval.proofs.OpeningLemmas.{Opening, channel_items, opening_all, items_sounds, items_are}
 
@@ -69,3 +70,6 @@ module _ (code : Code) (ordered : IsOrdered code) (free : KeepsFree code) (rate 
 
   pub channels_counts : SameCounts old new
   channels_counts = same_counts code ordered free rate old mid new ps ss empty now turn
+
+  pub channels_traced : EvaluatesChannels code rate old new ss
+  channels_traced = record { deep = code.play.0 + 1; mid = mid; played = ps; plays = now; channels = turn }

@@ -11,3 +11,4 @@ pub mod Shapes
 pub mod Turns
 pub mod Values
 pub mod Waiting
+pub mod Traced

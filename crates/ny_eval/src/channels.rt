@@ -6,6 +6,7 @@ ghost use Rattle.ny_hands.specs.Hands.{Hand, InHand, GivesUp};
 ghost use Rattle.ny_trace.specs.Channels.{ChannelTurn, ChannelsTurn};
 ghost use Rattle.ny_eval.specs.Mixing.{ComeFor};
 ghost use Rattle.ny_eval.specs.Opened.{IsEmpty, AreOpened};
+ghost use Rattle.ny_eval.specs.Traced.{EvaluatesChannels};
 
 use crate::frame::Frame;
 use crate::laws::program_laws;
@@ -158,6 +159,7 @@ pub fn eval_channels(
     requires empty { IsEmpty heap.old }
     ensures counts { IfOk result (λ sounds. SameCounts heap.old heap.new) }
     ensures opened { IfOk result (λ sounds. AreOpened p.now rate heap.new sounds.items) }
+    ensures traced { IfOk result (λ sounds. EvaluatesChannels p.now rate heap.old heap.new sounds.items) }
     ensures refused { OnErr result (Hand heap.old heap.new []) }
 {
     program_laws(p);

@@ -17,3 +17,4 @@ pub mod HeardNodes
 pub mod HeardPlays
 pub mod StartLemmas
 pub mod Stops
+pub mod CountedLemmas

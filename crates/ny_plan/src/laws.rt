@@ -1,13 +1,13 @@
 //! Laws over the definitions, each the contract of a function with nothing to do.
 
-ghost use Rattle.std.specs.Prelude.{◌≡◌, ℕ, ◌+◌, ◌<◌, ◌≤◌, Bool, true, false, List, map, Some, length, slice_get};
+ghost use Rattle.std.specs.Prelude.{◌≡◌, ℕ, ◌+◌, ◌<◌, ◌≤◌, Bool, true, false, List, map, Some, length, slice_get, slice_index, sum};
 ghost use Rattle.std.specs.List.{AllByRecursion};
 ghost use Rattle.ny_num.specs.declared.rate.Rate.{Rate};
 ghost use Rattle.ny_check.specs.Code.{Code};
 ghost use Rattle.ny_check.specs.Channels.{channels};
 ghost use Rattle.ny_heap.specs.Heap.{live_of};
 ghost use Rattle.ny_heap.specs.Kinds.{UnitKind, kept_of_kinds};
-ghost use Rattle.ny_plan.specs.Rows.{Input, Row, row_at, beginning, whole_at};
+ghost use Rattle.ny_plan.specs.Rows.{RowSound, Input, Row, row_at, beginning, whole_at};
 ghost use Rattle.ny_plan.specs.Plan.{plan};
 ghost use Rattle.ny_plan.specs.Need.{Filled, need, has_come};
 ghost use Rattle.ny_plan.specs.Fills.{Pulls, Fills, has_ended, counts, fills};
@@ -16,6 +16,7 @@ ghost use Rattle.ny_plan.specs.Liveness.{live, live_of_kinds};
 ghost use Rattle.ny_plan.specs.Peak.{nothing_filled};
 ghost use Rattle.ny_plan.specs.Order.{IsBelow, AllRows};
 ghost use Rattle.ny_plan.specs.StandsFor.{Matches};
+ghost use Rattle.ny_plan.specs.Demand.{IsEnough};
 
 use ny_heap::Heap;
 
@@ -37,10 +38,15 @@ pub fn need_law()
 
 /// The order law: before any pull nothing is filled (`starts`), and what a pull of a channel that has not ended fills leads from the counts
 /// to those with one pull more (`leads`). So the counts after any list of pulls depend on how often each channel was pulled, and on
-/// nothing else.
+/// nothing else, and each fill adds one block to them (`adds`). They are a count for each row (`size`), as many as each row that names it needs (`enough`), and of a channel as many as it
+/// was pulled (`pulled`).
 pub fn order_law()
     ensures starts { (block : ℕ) (code : Code) (rate : Rate) → 0 < block → counts block (plan code rate) (no_pulls (plan code rate)) ≡ nothing_filled (plan code rate).rows }
     ensures leads { (block : ℕ) (code : Code) (rate : Rate) (pulls : Pulls) (c : ℕ) → 0 < block → length pulls ≡ length (plan code rate).channels → has_ended block (plan code rate) (counts block (plan code rate) pulls) c ≡ false → Fills.filled (fills block (plan code rate) (counts block (plan code rate) pulls) c) ≡ counts block (plan code rate) (pulled c pulls) }
+    ensures adds { (block : ℕ) (code : Code) (rate : Rate) (pulls : Pulls) (c : ℕ) → 0 < block → length pulls ≡ length (plan code rate).channels → has_ended block (plan code rate) (counts block (plan code rate) pulls) c ≡ false → sum (counts block (plan code rate) (pulled c pulls)) ≡ sum (counts block (plan code rate) pulls) + length (Fills.order (fills block (plan code rate) (counts block (plan code rate) pulls) c)) }
+    ensures size { (block : ℕ) (code : Code) (rate : Rate) (pulls : Pulls) → length (counts block (plan code rate) pulls) ≡ length (plan code rate).rows }
+    ensures enough { (block : ℕ) (code : Code) (rate : Rate) (pulls : Pulls) → 0 < block → IsEnough block (plan code rate).rows (counts block (plan code rate) pulls) }
+    ensures pulled { (block : ℕ) (code : Code) (rate : Rate) (pulls : Pulls) (c x : ℕ) (s : RowSound) → length pulls ≡ length (plan code rate).channels → slice_get (plan code rate).channels c ≡ Some s → s.row ≡ Some x → slice_index (counts block (plan code rate) pulls) x ≡ slice_index pulls c }
 {}
 
 /// Kept blocks are live blocks: a heap whose units are those of a table of rows has as many blocks taken as are live (`all`), and as many

@@ -1,5 +1,5 @@
 -- The channels that were just opened, one after another: each is still to be pulled, or over.
-use Rattle.std.proofs.Common.{◌≡◌, ◌⊎◌, inl, inr, ℕ, zero, suc, ◌+◌, ◌*◌, ◌<◌, ◌≤◌, List, [], ◌∷◌, ◌++◌, map, length, slice_get, slice_index, slice_index_or, slice_set, Option, None, Some, IsSome, refl, sym, ap, subst, ◌∙◌, arith, ℤ}
+use Rattle.std.proofs.Common.{◌≡◌, ◌⊎◌, inl, inr, ℕ, zero, suc, ◌*◌, ◌<◌, ◌≤◌, List, [], ◌∷◌, ◌++◌, map, length, slice_get, slice_index, slice_index_or, slice_set, Option, None, Some, IsSome, refl, sym, ap, subst, ◌∙◌, arith}
 use Rattle.std.proofs.lemmas.List.{append_assoc}
 use Rattle.ny_num.specs.declared.rate.Rate.{Rate}
 use Rattle.ny_num.specs.Sound.{silence}
@@ -21,7 +21,9 @@ use Rattle.ny_eval.proofs.GivingUpLemmas.{open_of, ended_of, given_up_channel}
 use Rattle.ny_pull.specs.Engine.{Leaves}
 use Rattle.ny_pull.specs.Inside.{HasGiven, samples_of}
 use Rattle.ny_pull.specs.Places.{HaveBegun}
+use Rattle.ny_pull.specs.Seated.{AreSeated}
 use Rattle.ny_pull.proofs.EngineLemmas.{samples_at}
+use Rattle.ny_pull.proofs.SeatedLemmas.{left_seated}
 
 -- ---- places
 
@@ -54,8 +56,8 @@ no_blocks n b is = ap (λ k. k * b) is ∙ omega arith
 
 -- ---- one channel more
 
-pub begun_none : (code : Code) (rate : Rate) (opened : List Sound) (h : HeapState Branch) → AreOpened code rate h opened → HaveBegun code rate opened [] opened h
-begun_none code rate opened h are = record { playing = are.plays; given = λ c o e. absurd (never c o e) }
+pub begun_none : (code : Code) (rate : Rate) (opened : List Sound) (h : HeapState Branch) → AreOpened code rate h opened → AreSeated code rate h (map Some opened) (zeros opened) → HaveBegun code rate opened [] opened h
+begun_none code rate opened h are seated = record { playing = are.plays; given = λ c o e. absurd (never c o e); seated = seated }
   where
     never : (c : ℕ) (o : Option Sound) → slice_get [] c ≡ Some o → ⊥
     never c o e = cc
@@ -81,6 +83,7 @@ module _ (code : Code) (rate : Rate) (opened : List Sound) (done : List (Option 
   begun_open some = record {
     playing = subst (λ (os : List (Option Sound)). ArePlaying code old os (samples_of code rate) (zeros opened) (zeros opened)) (sym (append_assoc done (Some s ∷ []) (map Some rest))) so.playing;
     given = λ d o at. by_place d o (last_got done (Some s) d o at);
+    seated = subst (λ (os : List (Option Sound)). AreSeated code rate old os (zeros opened)) (sym (append_assoc done (Some s ∷ []) (map Some rest))) so.seated;
   }
     where
       more : 0 < length (slice_index_or (channels code rate) (length done) (silence rate)).samples
@@ -97,11 +100,16 @@ module _ (code : Code) (rate : Rate) (opened : List Sound) (done : List (Option 
 
   -- or is over at once
   module _ (new : HeapState Branch) (none : open_unit old (list_of s) ≡ None) (trimmed : IsTrimmed (without_sound old s) new) where
+    pub over_counts : SameCounts old new
+    over_counts = counts_more old (without_sound old s) new (spent_like old (s ∷ [])).counts (record { pool = trimmed.size.pool; block = trimmed.size.block; fills = trimmed.fills; peak = trimmed.peak })
+
     pub begun_over : HeapLaws new → KeepsMeaning old new → HaveBegun code rate opened (done ++ None ∷ []) rest new
     begun_over laws keeps = record {
       playing = subst (λ (os : List (Option Sound)). ArePlaying code new os (samples_of code rate) (zeros opened) (zeros opened)) (set_first done (Some s) None (map Some rest))
           (given_up_channel code old new (done ++ Some s ∷ map Some rest) (samples_of code rate) (zeros opened) (zeros opened) (length done) s so.playing here laws trimmed keeps);
       given = λ d o at. by_place d o (last_got done None d o at);
+      seated = subst (λ (os : List (Option Sound)). AreSeated code rate new os (zeros opened)) (set_first done (Some s) None (map Some rest))
+          (left_seated code rate old new (done ++ Some s ∷ map Some rest) (zeros opened) (length done) s here over_counts.block so.seated None (none, trimmed));
     }
       where
         over : length (slice_index_or (channels code rate) (length done) (silence rate)).samples ≤ 0
@@ -114,9 +122,6 @@ module _ (code : Code) (rate : Rate) (opened : List Sound) (done : List (Option 
         by_place d o (inr (place, same)) =
             subst (λ (o : Option Sound). HasGiven o (length (slice_index_or (channels code rate) d (silence rate)).samples) 0) same
             (subst (λ k. length (slice_index_or (channels code rate) k (silence rate)).samples ≤ 0) (sym place) over)
-
-    pub over_counts : SameCounts old new
-    over_counts = counts_more old (without_sound old s) new (spent_like old (s ∷ [])).counts (record { pool = trimmed.size.pool; block = trimmed.size.block; fills = trimmed.fills; peak = trimmed.peak })
 
   -- what is left of it
   pub begun_more : (new : HeapState Branch) (o : Option Sound) → Leaves old new s o → HeapLaws new → KeepsMeaning old new → HaveBegun code rate opened (done ++ o ∷ []) rest new

@@ -1,5 +1,5 @@
 -- What a pull of a channel does to the state that contracts see.
-use Rattle.std.proofs.Common.{◌≡◌, ◌≢◌, inl, inr, ℕ, zero, suc, ◌+◌, ◌*◌, ◌<◌, ◌≤◌, Bool, true, false, nat_lt, IsSomeAnd, IsTrue, if◌then◌else◌, List, [], ◌∷◌, ◌++◌, length, map, take, drop, sum, slice_get, slice_index, slice_index_or, slice_set, Option, None, Some, refl, sym, ap, subst, ◌∙◌, arith, ℤ, length-take, length-drop}
+use Rattle.std.proofs.Common.{◌≡◌, inl, inr, ℕ, zero, suc, ◌+◌, ◌*◌, ◌<◌, ◌≤◌, List, [], ◌∷◌, ◌++◌, length, map, take, drop, sum, slice_get, slice_index, slice_index_or, slice_set, Option, None, Some, refl, sym, ap, subst, ◌∙◌, arith, ℤ}
 use Rattle.std.proofs.lemmas.Bool.{cases_eq}
 use Rattle.std.proofs.lemmas.List.{length-set}
 use Rattle.std.proofs.lemmas.Nat.{mul-le}
@@ -12,7 +12,7 @@ use Rattle.ny_check.specs.Code.{Code}
 use Rattle.ny_check.specs.Channels.{channels}
 use Rattle.ny_check.specs.Heights.{height_of}
 use Rattle.std.specs.List.{fold}
-use Rattle.ny_heap.specs.Heap.{Node, HeapState, node_at, is_open, list_of, place_of, open_unit, live_of}
+use Rattle.ny_heap.specs.Heap.{HeapState, list_of, place_of, open_unit, live_of}
 use Rattle.ny_heap.specs.Reach.{HeapLaws, IsTrimmed}
 use Rattle.ny_heap.specs.Means.{Parts, Whole, Means, KeepsMeaning, sound_in}
 use Rattle.ny_heap.specs.Steps.{IsHeldSound, Passes, advanced, run_of, computed_in}
@@ -32,9 +32,10 @@ use Rattle.ny_eval.proofs.PlayingLemmas.{drives_channel, stops_channel, within, 
 use Rattle.ny_eval.proofs.ReadingLemmas.{Read, read_channel}
 use Rattle.ny_pull.specs.declared.fault.PullFault.{PullFault}
 use Rattle.ny_pull.specs.declared.fault.PullFault.TheVariants.{PoolFull, OutOfMemory}
-use Rattle.ny_pull.specs.Engine.{EngineState, channel_at, passed_of, next_block, HasEnded, with_pull, SamePiece, Leaves}
+use Rattle.ny_pull.specs.Engine.{EngineState, with_pull, Leaves}
 use Rattle.ny_pull.specs.Inside.{HasGiven, samples_of, IsEngineInside}
 use Rattle.ny_pull.specs.Places.{unit_at, ReadsAt}
+use Rattle.ny_pull.specs.Seated.{AreSeated}
 
 -- the state of an engine
 abbrev pub state : Code → Rate → List (Option Sound) → List ℕ → Option PullFault → HeapState Branch → EngineState
@@ -216,8 +217,8 @@ module _ (code : Code) (rate : Rate) (h mid new : HeapState Branch) (os later : 
           let short = (open_of reads.read now_read.playing.whole reads.to (slice_index_or (samples_of code rate) c []) (slice_index counts c) found.0 reads.read_laws chan found.1).short in
           subst (λ b. slice_index counts c * b < length (slice_index_or (channels code rate) c (silence rate)).samples) (block_read ∙ sym size_now.1) (subst (λ k. slice_index counts c * reads.read.block < k) len short)
 
-  pub inside_now : IsEngineInside code rate new later counts frames (pulls + 1) spent
-  inside_now = record {
+  pub inside_now : AreSeated code rate new later counts → IsEngineInside code rate new later counts frames (pulls + 1) spent
+  inside_now seated = record {
     count = ap length reads.now ∙ (length-set os c reads.left ∙ inside.count);
     count_pulled = length-set pulled c (slice_index pulled c + 1) ∙ inside.count_pulled;
     some = omega (arith, ap length reads.now, length-set os c reads.left, inside.some);
@@ -231,6 +232,7 @@ module _ (code : Code) (rate : Rate) (h mid new : HeapState Branch) (os later : 
     laws = reads.laws;
     given = given_now;
     still = λ enough. playing_now;
+    seated = λ none. seated;
     full = λ fault is other. absurd (none_spent spent fault unspent is);
   }
 
@@ -264,6 +266,7 @@ module _ (code : Code) (rate : Rate) (h new : HeapState Branch) (os : List (Opti
     bounded = inside.bounded;
     laws = stopped.laws;
     given = given_later hears.block;
+    seated = λ none. absurd (none_spent (Some (PoolFull pulls live)) (PoolFull pulls live) none refl);
     still = λ enough. stops_channel code h new os (samples_of code rate) pulled pulled c found.0 u (playing code rate h os pulled frames pulls spent inside unspent) found.1 (opens_at code rate h os pulled frames pulls spent inside unspent c found.0 u found.1 found.2).list stopped hears ready;
     full = λ fault is other. (sym (some_same (PoolFull pulls live) fault is) ∙ ap (PoolFull pulls) full, sym counted ∙ full);
   }
@@ -280,6 +283,7 @@ module _ (code : Code) (rate : Rate) (h new : HeapState Branch) (os : List (Opti
     laws = laws;
     given = given_later block;
     still = λ enough. absurd (enough refl);
+    seated = λ none. absurd (none_spent (Some OutOfMemory) OutOfMemory none refl);
     full = λ fault is other. absurd (other (sym (some_same OutOfMemory fault is)));
   }
 

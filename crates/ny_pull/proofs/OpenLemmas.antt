@@ -1,5 +1,5 @@
 -- An engine at its beginning.
-use Rattle.std.proofs.Common.{◌≡◌, ◌≢◌, ℕ, zero, suc, ◌+◌, ◌*◌, ◌<◌, ◌≤◌, max, List, [], ◌∷◌, ◌++◌, length, map, sum, replicate, slice_get, slice_index, slice_index_or, Option, None, Some, refl, sym, ap, subst, ◌∙◌, arith}
+use Rattle.std.proofs.Common.{◌≡◌, ℕ, zero, suc, ◌*◌, ◌≤◌, max, List, [], ◌∷◌, ◌++◌, length, map, sum, replicate, slice_get, slice_index, slice_index_or, Option, None, Some, refl, sym, ap, subst, ◌∙◌, arith}
 use Rattle.ny_num.specs.Grid.{last_index}
 use Rattle.ny_num.specs.declared.rate.Rate.{Rate}
 use Rattle.ny_num.specs.declared.timing.Timing.{Timing}
@@ -11,8 +11,7 @@ use Rattle.ny_num.proofs.RateLaws.{resampled_timing-rate}
 use Rattle.ny_warp.specs.Environment.{opening}
 use Rattle.ny_check.specs.Code.{Code}
 use Rattle.ny_check.specs.Channels.{channels, longest, played, channel_at as in_channel}
-use Rattle.ny_heap.specs.Heap.{HeapState}
-use Rattle.ny_heap.specs.Reach.{HeapLaws}
+use Rattle.ny_heap.specs.Heap.{Node, HeapState, node_at}
 use Rattle.ny_heap.specs.declared.sound.Sound.{Sound}
 use Rattle.ny_hands.specs.declared.branch.Branch.{Branch}
 use Rattle.ny_eval.specs.Opened.{zeros, AreOpened}
@@ -20,6 +19,7 @@ use Rattle.ny_eval.specs.Playing.{ArePlaying}
 use Rattle.ny_pull.specs.declared.fault.PullFault.{PullFault}
 use Rattle.ny_pull.specs.Inside.{HasGiven, samples_of, IsEngineInside}
 use Rattle.ny_pull.specs.Places.{longest_of, HaveBegun}
+use Rattle.ny_pull.specs.Seated.{AreSeated}
 
 -- ---- the times of channels
 
@@ -82,15 +82,22 @@ module _ (code : Code) (rate : Rate) (h : HeapState Branch) (opened : List Sound
 
 -- ---- nothing was pulled
 
+pub nothing_in : (h : HeapState Branch) → h.nodes ≡ [] → (v : ℕ) → node_at h v ≡ None
+nothing_in h is v = ap (λ (os : List (Option (Node Branch))). slice_index_or os v None) is ∙ none v
+  where
+    none : (v : ℕ) → slice_index_or {A = Option (Node Branch)} [] v None ≡ None
+    none zero = refl
+    none (suc v) = refl
+
 no_more : {A : Type 0} (xs : List A) → xs ++ [] ≡ xs
 no_more [] = refl
 no_more (x ∷ xs) = ap (λ rest. x ∷ rest) (no_more xs)
 
-as_many : {A B : Type 0} (f : A → B) (xs : List A) → length (map f xs) ≡ length xs
+pub as_many : {A B : Type 0} (f : A → B) (xs : List A) → length (map f xs) ≡ length xs
 as_many f [] = refl
 as_many f (x ∷ xs) = ap (λ (n : ℕ). suc n) (as_many f xs)
 
-zeros_by : {A B : Type 0} (xs : List A) (ys : List B) → length xs ≡ length ys → map {B = ℕ} (λ (x : A). 0) xs ≡ map {B = ℕ} (λ (y : B). 0) ys
+pub zeros_by : {A B : Type 0} (xs : List A) (ys : List B) → length xs ≡ length ys → map {B = ℕ} (λ (x : A). 0) xs ≡ map {B = ℕ} (λ (y : B). 0) ys
 zeros_by [] [] e = refl
 zeros_by [] (y ∷ ys) e = absurd (omega (arith, e))
 zeros_by (x ∷ xs) [] e = absurd (omega (arith, e))
@@ -141,6 +148,7 @@ module _ (code : Code) (rate : Rate) (before h : HeapState Branch) (opened : Lis
     laws = playing.laws;
     given = given_at;
     still = λ enough. subst (λ (ns : List ℕ). ArePlaying code h os (samples_of code rate) ns ns) (sym zero_pulled) playing;
+    seated = λ still. subst (λ (ns : List ℕ). AreSeated code rate h os ns) (sym zero_pulled) (subst (λ qs. AreSeated code rate h qs (zeros opened)) (no_more os) begun.seated);
     full = λ fault is. absurd (never spent fault unspent is);
   }
     where

@@ -12,6 +12,7 @@ use Rattle.ny_hands.specs.declared.branch.Branch.{Branch}
 use Rattle.ny_eval.specs.Playing.{ArePlaying}
 use Rattle.ny_pull.specs.declared.fault.PullFault.{PullFault}
 use Rattle.ny_pull.specs.declared.fault.PullFault.TheVariants.{PoolFull, OutOfMemory}
+use Rattle.ny_pull.specs.Seated.{AreSeated}
 
 -- so many of so many samples were given: all, or fewer
 abbrev pub HasGiven : Option Sound → ℕ → ℕ → Type 0
@@ -35,5 +36,7 @@ pub record IsEngineInside (code : Code) (rate : Rate) (h : HeapState Branch) (so
   pub given : (c : ℕ) (o : Option Sound) → slice_get sounds c ≡ Some o → HasGiven o (length (slice_index_or (channels code rate) c (silence rate)).samples) (slice_index pulled c * h.block)
   -- but where memory was missing
   pub still : spent ≢ Some OutOfMemory → ArePlaying code h sounds (samples_of code rate) pulled pulled
+  -- while it is not spent its units are the rows of the plan
+  pub seated : spent ≡ None → AreSeated code rate h sounds pulled
   -- where it is spent for want of a block, all blocks are taken
   pub full : (fault : PullFault) → spent ≡ Some fault → fault ≢ OutOfMemory → (fault ≡ PoolFull pulls h.pool) × (live_of h ≡ h.pool)

@@ -1,3 +1,5 @@
 pub mod Engine
 pub mod Inside
 pub mod Places
+pub mod Planned
+pub mod Seated

@@ -1,5 +1,5 @@
 -- The channels of an engine by their places.
-use Rattle.std.specs.Prelude.{◌≡◌, ℕ, ◌+◌, ◌<◌, max, List, [], ◌∷◌, ◌++◌, Option, None, Some, map, length, slice_get, slice_set, slice_index_or}
+use Rattle.std.specs.Prelude.{◌≡◌, ℕ, max, List, [], ◌∷◌, ◌++◌, Option, None, Some, map, length, slice_get, slice_set, slice_index_or}
 use Rattle.ny_heap.specs.Heap.{HeapState, list_of, place_of, open_unit}
 use Rattle.ny_heap.specs.Means.{KeepsMeaning}
 use Rattle.ny_heap.specs.Reach.{HeapLaws, IsTrimmed}
@@ -14,6 +14,7 @@ use Rattle.ny_eval.specs.Opened.{zeros}
 use Rattle.ny_eval.specs.Playing.{ArePlaying}
 use Rattle.ny_pull.specs.Engine.{Leaves}
 use Rattle.ny_pull.specs.Inside.{HasGiven, samples_of}
+use Rattle.ny_pull.specs.Seated.{AreSeated}
 
 -- the unit with a block left that a channel reads, where it is not over
 abbrev pub unit_of : HeapState Branch → Option (Option Sound) → Option ℕ
@@ -49,3 +50,4 @@ longest_of (s ∷ ss) = max s.timing.len (longest_of ss)
 pub record HaveBegun (code : Code) (rate : Rate) (opened : List Sound) (done : List (Option Sound)) (rest : List Sound) (h : HeapState Branch) : Type 0 where
   pub playing : ArePlaying code h (done ++ map Some rest) (samples_of code rate) (zeros opened) (zeros opened)
   pub given : (c : ℕ) (o : Option Sound) → slice_get done c ≡ Some o → HasGiven o (length (slice_index_or (channels code rate) c (silence rate)).samples) 0
+  pub seated : AreSeated code rate h (done ++ map Some rest) (zeros opened)

@@ -10,11 +10,16 @@ ghost use Rattle.ny_heap.specs.Reach.{HeapLaws, IsTrimmed};
 ghost use Rattle.ny_heap.specs.Revealing.{has_waiting};
 ghost use Rattle.ny_heap.specs.Steps.{IsHeldSound, Passes, advanced, run_of, computed_in};
 ghost use Rattle.ny_hands.specs.Counts.{SameCounts};
-ghost use Rattle.ny_eval.specs.Opened.{AreOpened};
+ghost use Rattle.ny_eval.specs.Opened.{AreOpened, zeros};
+ghost use Rattle.ny_plan.specs.Plan.{plan};
+ghost use Rattle.ny_plan.specs.Liveness.{live as live_by_plan};
+ghost use Rattle.ny_pull.specs.Seated.{AreSeated};
+ghost use Rattle.ny_pull.specs.Planned.{filled_of, FollowsPlan, FillsAsPlanned, FindsAllLive};
 ghost use Rattle.ny_pull.specs.Places.{unit_at, ReadsAt, longest_of, HaveBegun};
 ghost use Rattle.ny_pull.specs.Engine.{EngineState, channel_at, next_block, HasEnded, IsReadByChannels, with_pull, SamePiece, MeansItsChannels, Leaves, GivesBlock, StopsAtFull, NeedsMore, LacksMemory, full_of};
 
 use crate::fault::PullFault;
+use crate::laws::program_laws;
 use ny_check::Program;
 use ny_eval::{DriveFault, drive, eval_channels};
 use ny_hands::Branch;
@@ -98,6 +103,7 @@ fn begun(
     heap: &mut Heap<Branch>,
 ) -> Result<Vec<Option<Sound>>, AllocError>
     requires opened { AreOpened p.now rate heap.old sounds.items }
+    requires seated { AreSeated p.now rate heap.old (map Some sounds.items) (zeros sounds.items) }
     ensures begun { IfOk result (λ channels. HaveBegun p.now rate sounds.items channels.items [] heap.new) }
     ensures laws { HeapLaws heap.new }
     ensures counts { SameCounts heap.old heap.new }
@@ -166,8 +172,9 @@ impl Engine {
         ensures hour { IfOk result (λ e. (c : ℕ) → length (channel_at e c) ≤ last_index rate) }
         ensures laws { IfOk result (λ e. HeapLaws e.heap) }
         ensures means { IfOk result (λ e. MeansItsChannels e) }
+        ensures follows { IfOk result (λ e. FollowsPlan e) }
     {
-        program.order_law();
+        program_laws(&program);
         meaning_law(&program);
         let mut heap = Heap::open(alloc, pool, block)?;
         let sounds = eval_channels(alloc, &program, rate, &mut heap)?;
@@ -242,10 +249,14 @@ impl Engine {
         ensures same { SamePiece self.old self.new }
         ensures laws { HeapLaws self.new.heap }
         ensures means { self.new.spent ≢ Some PullFault.OutOfMemory → MeansItsChannels self.new }
+        ensures fills { OnOk result (FillsAsPlanned self.old self.new c) }
+        ensures finds { IfErr result (λ fault. fault ≢ PullFault.OutOfMemory → self.old.spent ≡ None → FindsAllLive self.old c) }
+        ensures follows { self.new.spent ≡ None → FollowsPlan self.new }
     {
         if let Some(fault) = self.spent {
             return Err(fault);
         }
+        program_laws(&self.program);
         let Some(unit) = unit_at(&self.heap, self.channels.as_slice(), c as usize) else {
             return Ok(0);
         };
@@ -280,6 +291,8 @@ impl Engine {
         ensures live { result ≡ live_of self.now.heap }
         ensures laws { HeapLaws self.now.heap }
         ensures reached { self.now.spent ≢ Some PullFault.OutOfMemory → IsReadByChannels self.now }
+        ensures planned { self.now.spent ≡ None → result ≡ live_by_plan self.now.heap.block (plan self.now.code self.now.rate).rows (filled_of self.now) }
+        ensures full { IfSome self.now.spent (λ fault. fault ≢ PullFault.OutOfMemory → result ≡ self.now.heap.pool) }
     {
         self.heap.live()
     }

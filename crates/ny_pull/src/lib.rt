@@ -6,6 +6,7 @@
 
 mod engine;
 mod fault;
+mod laws;
 
 pub use engine::Engine;
 pub use fault::PullFault;

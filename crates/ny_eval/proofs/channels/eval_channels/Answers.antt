@@ -6,7 +6,7 @@ use Rattle.ny_eval.specs.Framed.{names_in}
 use Rattle.ny_eval.proofs.AnswerLemmas.{on_err}
 use Rattle.ny_eval.proofs.BodyLemmas.{empty_frame, empty_held}
 use Rattle.ny_eval.proofs.PlayedLemmas.{plays_hand}
-use Rattle.ny_eval.proofs.PlayedOpeningLemmas.{channels_opened, channels_counts}
+use Rattle.ny_eval.proofs.PlayedOpeningLemmas.{channels_opened, channels_counts, channels_traced}
 use Rattle.ny_eval.proofs.channels.eval_channels.Goals as goal
 
 pub played-requires-clause-names : goal.played-requires-clause-names
@@ -30,6 +30,11 @@ pub returns-clause-opened : goal.returns-clause-opened
 returns-clause-opened c =
     let empty = empty_frame c.in_ok-frame.frame c.as_slice.result.now c.in_ok-frame.ensures (c.as_slice.ensures ∙ c.no_names-none.ensures) in
     channels_opened c.args.p.now c.program_laws.ensures.ordered c.program_laws.ensures.free c.args.rate c.in_ok-env.env c.play.result (names_in c.in_ok-frame.frame) c.args.heap.now c.played.new.heap c.channels_of.new.heap c.in_ok-parts.parts.items c.in_ok-channels_of.field-0.items c.requires.empty c.in_ok-env.ensures c.play.ensures.value (ap names_in empty) c.in_ok-parts.ensures.plays c.in_ok-channels_of.ensures.turn
+
+pub returns-clause-traced : goal.returns-clause-traced
+returns-clause-traced c =
+    let empty = empty_frame c.in_ok-frame.frame c.as_slice.result.now c.in_ok-frame.ensures (c.as_slice.ensures ∙ c.no_names-none.ensures) in
+    channels_traced c.args.p.now c.program_laws.ensures.ordered c.program_laws.ensures.free c.args.rate c.in_ok-env.env c.play.result (names_in c.in_ok-frame.frame) c.args.heap.now c.played.new.heap c.channels_of.new.heap c.in_ok-parts.parts.items c.in_ok-channels_of.field-0.items c.requires.empty c.in_ok-env.ensures c.play.ensures.value (ap names_in empty) c.in_ok-parts.ensures.plays c.in_ok-channels_of.ensures.turn
 
 pub returns-in_err-env-clause-refused : goal.returns-in_err-env-clause-refused
 returns-in_err-env-clause-refused c = on_err _ _ (hand_none c.args.heap.now c.requires.empty.laws)

@@ -5,6 +5,7 @@ use Rattle.ny_pull.specs.Places.{unit_at, ReadsAt}
 use Rattle.ny_pull.proofs.PlaceLemmas.{put_back}
 use Rattle.ny_pull.proofs.EngineLemmas.{found_at, playing, channel_of, over_at, held_mid, held_after, few_at, few_pulls, inside_now, count_now, samples_now, some_now, size_now, spends}
 use Rattle.ny_pull.proofs.StateLemmas.{next_is, ended_at, not_ended, none_next, one_pull, stops, lacks, needs_quietly, waits_now, want_is_not_full, all_taken, same_piece, means_channels}
+use Rattle.ny_pull.proofs.PullLemmas.{follows, fills_nothing, fills_as_planned, seated_now, finds_all_live}
 use Rattle.ny_pull.proofs.engine.Engine.pull.Goals as goal
 
 pub returns-in-Some-clause-means : goal.returns-in-Some-clause-means
@@ -120,10 +121,12 @@ invariant_of-self-2 c =
     let found = found_at c.self.inside.heap c.self.inside.channels.items c.args.c c.in-Some-unit_at.unit.0.0 (ap (λ os. unit_at c.self.inside.heap os c.args.c) (sym c.as_slice.ensures.value) ∙ sym c.in-Some-unit_at.ensures.unit) in
     let d = c.in-Ok.ensures in
     let reads = subst (λ os. ReadsAt c.drive.new.heap c.read_at-count.new.heap os c.read_at-count.new.channels c.args.c (length c.args.out.now) c.read_at-count.result) c.as_mut_slice.ensures.value c.read_at-count.ensures.reads in
+    let laws = c.program_laws.ensures in
+    let seats = seated_now c.self.inside.program c.self.inside.rate c.self.inside.heap c.self.inside.channels.items c.self.inside.pulled.items c.self.inside.frames c.self.inside.pulls c.self.inside.spent c.self.invariant c.in_default.is laws.ordered laws.free laws.made laws.tall c.args.c c.in-Some-unit_at.unit.0.0 found d.walks.0 d.walks.1 c.drive.new.heap d.walks.2 c.read_at-count.new.heap c.read_at-count.new.channels (length c.args.out.now) c.read_at-count.result reads in
     let chans = put_back c.self.inside.channels.len c.read_at-count.new.channels (drop (length c.read_at-count.new.channels) c.self.inside.channels.items) (ap length reads.now ∙ (length-set c.self.inside.channels.items c.args.c reads.left ∙ (ap length (sym c.as_mut_slice.ensures.value) ∙ c.as_mut_slice.ensures.len))) in
     let told = c.count_at.ensures ∙ ap (λ ns. with_pull ns c.args.c) c.as_mut_slice-2.ensures.value in
     let counts = put_back c.self.inside.pulled.len c.count_at.new.pulled (drop (length c.count_at.new.pulled) c.self.inside.pulled.items) (ap length told ∙ (length-set c.self.inside.pulled.items c.args.c _ ∙ (ap length (sym c.as_mut_slice-2.ensures.value) ∙ c.as_mut_slice-2.ensures.len))) ∙ told in
-    (subst (λ ns. IsEngineInside c.self.inside.program c.self.inside.rate c.read_at-count.new.heap (take c.self.inside.channels.len (c.read_at-count.new.channels ++ drop (length c.read_at-count.new.channels) c.self.inside.channels.items)) ns c.self.inside.frames (c.self.inside.pulls + 1) c.self.inside.spent) (sym counts) (subst (λ os. IsEngineInside c.self.inside.program c.self.inside.rate c.read_at-count.new.heap os (with_pull c.self.inside.pulled.items c.args.c) c.self.inside.frames (c.self.inside.pulls + 1) c.self.inside.spent) (sym chans) (inside_now c.self.inside.program c.self.inside.rate c.self.inside.heap c.drive.new.heap c.read_at-count.new.heap c.self.inside.channels.items c.read_at-count.new.channels c.self.inside.pulled.items c.self.inside.frames c.self.inside.pulls c.self.inside.spent c.self.invariant c.in_default.is c.args.c c.in-Some-unit_at.unit.0.0 (length c.args.out.now) c.read_at-count.result found d.walked d.hears d.ready (c.requires.room ∙ sym (ap (λ (e : EngineState). e.heap.block) c.self.view_is)) reads)))
+    (subst (λ ns. IsEngineInside c.self.inside.program c.self.inside.rate c.read_at-count.new.heap (take c.self.inside.channels.len (c.read_at-count.new.channels ++ drop (length c.read_at-count.new.channels) c.self.inside.channels.items)) ns c.self.inside.frames (c.self.inside.pulls + 1) c.self.inside.spent) (sym counts) (subst (λ os. IsEngineInside c.self.inside.program c.self.inside.rate c.read_at-count.new.heap os (with_pull c.self.inside.pulled.items c.args.c) c.self.inside.frames (c.self.inside.pulls + 1) c.self.inside.spent) (sym chans) (inside_now c.self.inside.program c.self.inside.rate c.self.inside.heap c.drive.new.heap c.read_at-count.new.heap c.self.inside.channels.items c.read_at-count.new.channels c.self.inside.pulled.items c.self.inside.frames c.self.inside.pulls c.self.inside.spent c.self.invariant c.in_default.is c.args.c c.in-Some-unit_at.unit.0.0 (length c.args.out.now) c.read_at-count.result found d.walked d.hears d.ready (c.requires.room ∙ sym (ap (λ (e : EngineState). e.heap.block) c.self.view_is)) reads seats)))
 
 pub returns-clause-count : goal.returns-clause-count
 returns-clause-count c =
@@ -171,7 +174,49 @@ returns-clause-means c =
     let found = found_at c.self.inside.heap c.self.inside.channels.items c.args.c c.in-Some-unit_at.unit.0.0 (ap (λ os. unit_at c.self.inside.heap os c.args.c) (sym c.as_slice.ensures.value) ∙ sym c.in-Some-unit_at.ensures.unit) in
     let d = c.in-Ok.ensures in
     let reads = subst (λ os. ReadsAt c.drive.new.heap c.read_at-count.new.heap os c.read_at-count.new.channels c.args.c (length c.args.out.now) c.read_at-count.result) c.as_mut_slice.ensures.value c.read_at-count.ensures.reads in
+    let laws = c.program_laws.ensures in
+    let seats = seated_now c.self.inside.program c.self.inside.rate c.self.inside.heap c.self.inside.channels.items c.self.inside.pulled.items c.self.inside.frames c.self.inside.pulls c.self.inside.spent c.self.invariant c.in_default.is laws.ordered laws.free laws.made laws.tall c.args.c c.in-Some-unit_at.unit.0.0 found d.walks.0 d.walks.1 c.drive.new.heap d.walks.2 c.read_at-count.new.heap c.read_at-count.new.channels (length c.args.out.now) c.read_at-count.result reads in
     let chans = put_back c.self.inside.channels.len c.read_at-count.new.channels (drop (length c.read_at-count.new.channels) c.self.inside.channels.items) (ap length reads.now ∙ (length-set c.self.inside.channels.items c.args.c reads.left ∙ (ap length (sym c.as_mut_slice.ensures.value) ∙ c.as_mut_slice.ensures.len))) in
     let told = c.count_at.ensures ∙ ap (λ ns. with_pull ns c.args.c) c.as_mut_slice-2.ensures.value in
     let counts = put_back c.self.inside.pulled.len c.count_at.new.pulled (drop (length c.count_at.new.pulled) c.self.inside.pulled.items) (ap length told ∙ (length-set c.self.inside.pulled.items c.args.c _ ∙ (ap length (sym c.as_mut_slice-2.ensures.value) ∙ c.as_mut_slice-2.ensures.len))) ∙ told in
-    means_channels c.self.inside.program c.self.inside.rate c.read_at-count.new.heap _ _ c.self.inside.frames (c.self.inside.pulls + 1) c.self.inside.spent _ refl (subst (λ ns. IsEngineInside c.self.inside.program c.self.inside.rate c.read_at-count.new.heap (take c.self.inside.channels.len (c.read_at-count.new.channels ++ drop (length c.read_at-count.new.channels) c.self.inside.channels.items)) ns c.self.inside.frames (c.self.inside.pulls + 1) c.self.inside.spent) (sym counts) (subst (λ os. IsEngineInside c.self.inside.program c.self.inside.rate c.read_at-count.new.heap os (with_pull c.self.inside.pulled.items c.args.c) c.self.inside.frames (c.self.inside.pulls + 1) c.self.inside.spent) (sym chans) (inside_now c.self.inside.program c.self.inside.rate c.self.inside.heap c.drive.new.heap c.read_at-count.new.heap c.self.inside.channels.items c.read_at-count.new.channels c.self.inside.pulled.items c.self.inside.frames c.self.inside.pulls c.self.inside.spent c.self.invariant c.in_default.is c.args.c c.in-Some-unit_at.unit.0.0 (length c.args.out.now) c.read_at-count.result found d.walked d.hears d.ready (c.requires.room ∙ sym (ap (λ (e : EngineState). e.heap.block) c.self.view_is)) reads)))
+    means_channels c.self.inside.program c.self.inside.rate c.read_at-count.new.heap _ _ c.self.inside.frames (c.self.inside.pulls + 1) c.self.inside.spent _ refl (subst (λ ns. IsEngineInside c.self.inside.program c.self.inside.rate c.read_at-count.new.heap (take c.self.inside.channels.len (c.read_at-count.new.channels ++ drop (length c.read_at-count.new.channels) c.self.inside.channels.items)) ns c.self.inside.frames (c.self.inside.pulls + 1) c.self.inside.spent) (sym counts) (subst (λ os. IsEngineInside c.self.inside.program c.self.inside.rate c.read_at-count.new.heap os (with_pull c.self.inside.pulled.items c.args.c) c.self.inside.frames (c.self.inside.pulls + 1) c.self.inside.spent) (sym chans) (inside_now c.self.inside.program c.self.inside.rate c.self.inside.heap c.drive.new.heap c.read_at-count.new.heap c.self.inside.channels.items c.read_at-count.new.channels c.self.inside.pulled.items c.self.inside.frames c.self.inside.pulls c.self.inside.spent c.self.invariant c.in_default.is c.args.c c.in-Some-unit_at.unit.0.0 (length c.args.out.now) c.read_at-count.result found d.walked d.hears d.ready (c.requires.room ∙ sym (ap (λ (e : EngineState). e.heap.block) c.self.view_is)) reads seats)))
+
+pub returns-clause-follows : goal.returns-clause-follows
+returns-clause-follows c = λ unspent.
+    let found = found_at c.self.inside.heap c.self.inside.channels.items c.args.c c.in-Some-unit_at.unit.0.0 (ap (λ os. unit_at c.self.inside.heap os c.args.c) (sym c.as_slice.ensures.value) ∙ sym c.in-Some-unit_at.ensures.unit) in
+    let d = c.in-Ok.ensures in
+    let reads = subst (λ os. ReadsAt c.drive.new.heap c.read_at-count.new.heap os c.read_at-count.new.channels c.args.c (length c.args.out.now) c.read_at-count.result) c.as_mut_slice.ensures.value c.read_at-count.ensures.reads in
+    let laws = c.program_laws.ensures in
+    let seats = seated_now c.self.inside.program c.self.inside.rate c.self.inside.heap c.self.inside.channels.items c.self.inside.pulled.items c.self.inside.frames c.self.inside.pulls c.self.inside.spent c.self.invariant c.in_default.is laws.ordered laws.free laws.made laws.tall c.args.c c.in-Some-unit_at.unit.0.0 found d.walks.0 d.walks.1 c.drive.new.heap d.walks.2 c.read_at-count.new.heap c.read_at-count.new.channels (length c.args.out.now) c.read_at-count.result reads in
+    let chans = put_back c.self.inside.channels.len c.read_at-count.new.channels (drop (length c.read_at-count.new.channels) c.self.inside.channels.items) (ap length reads.now ∙ (length-set c.self.inside.channels.items c.args.c reads.left ∙ (ap length (sym c.as_mut_slice.ensures.value) ∙ c.as_mut_slice.ensures.len))) in
+    let told = c.count_at.ensures ∙ ap (λ ns. with_pull ns c.args.c) c.as_mut_slice-2.ensures.value in
+    let counts = put_back c.self.inside.pulled.len c.count_at.new.pulled (drop (length c.count_at.new.pulled) c.self.inside.pulled.items) (ap length told ∙ (length-set c.self.inside.pulled.items c.args.c _ ∙ (ap length (sym c.as_mut_slice-2.ensures.value) ∙ c.as_mut_slice-2.ensures.len))) ∙ told in
+    follows c.self.inside.program c.self.inside.rate c.read_at-count.new.heap _ _ c.self.inside.frames (c.self.inside.pulls + 1) c.self.inside.spent (subst (λ ns. IsEngineInside c.self.inside.program c.self.inside.rate c.read_at-count.new.heap (take c.self.inside.channels.len (c.read_at-count.new.channels ++ drop (length c.read_at-count.new.channels) c.self.inside.channels.items)) ns c.self.inside.frames (c.self.inside.pulls + 1) c.self.inside.spent) (sym counts) (subst (λ os. IsEngineInside c.self.inside.program c.self.inside.rate c.read_at-count.new.heap os (with_pull c.self.inside.pulled.items c.args.c) c.self.inside.frames (c.self.inside.pulls + 1) c.self.inside.spent) (sym chans) (inside_now c.self.inside.program c.self.inside.rate c.self.inside.heap c.drive.new.heap c.read_at-count.new.heap c.self.inside.channels.items c.read_at-count.new.channels c.self.inside.pulled.items c.self.inside.frames c.self.inside.pulls c.self.inside.spent c.self.invariant c.in_default.is c.args.c c.in-Some-unit_at.unit.0.0 (length c.args.out.now) c.read_at-count.result found d.walked d.hears d.ready (c.requires.room ∙ sym (ap (λ (e : EngineState). e.heap.block) c.self.view_is)) reads seats))) c.in_default.is _ refl
+
+pub returns-clause-fills : goal.returns-clause-fills
+returns-clause-fills c =
+    let found = found_at c.self.inside.heap c.self.inside.channels.items c.args.c c.in-Some-unit_at.unit.0.0 (ap (λ os. unit_at c.self.inside.heap os c.args.c) (sym c.as_slice.ensures.value) ∙ sym c.in-Some-unit_at.ensures.unit) in
+    let d = c.in-Ok.ensures in
+    let laws = c.program_laws.ensures in
+    let reads = subst (λ os. ReadsAt c.drive.new.heap c.read_at-count.new.heap os c.read_at-count.new.channels c.args.c (length c.args.out.now) c.read_at-count.result) c.as_mut_slice.ensures.value c.read_at-count.ensures.reads in
+    fills_as_planned c.self.inside.program c.self.inside.rate c.self.inside.heap c.self.inside.channels.items c.self.inside.pulled.items c.self.inside.frames c.self.inside.pulls c.self.inside.spent c.self.invariant c.in_default.is laws.ordered laws.free laws.made laws.tall c.args.c c.in-Some-unit_at.unit.0.0 found d.walks.0 d.walks.1 c.drive.new.heap d.walks.2 c.read_at-count.new.heap c.read_at-count.new.channels _ _ _ (length c.args.out.now) c.read_at-count.result reads _ c.self.view_is
+
+pub returns-in-Err-PoolFull-clause-finds : goal.returns-in-Err-PoolFull-clause-finds
+returns-in-Err-PoolFull-clause-finds c = λ other unspent.
+    let found = found_at c.self.inside.heap c.self.inside.channels.items c.args.c c.in-Some-unit_at.unit.0.0 (ap (λ os. unit_at c.self.inside.heap os c.args.c) (sym c.as_slice.ensures.value) ∙ sym c.in-Some-unit_at.ensures.unit) in
+    let d = c.in-Err-PoolFull.ensures in
+    let laws = c.program_laws.ensures in
+    let walk = d.stops c.in-Err-PoolFull.field-0-is in
+    let l = c.live.ensures in
+    finds_all_live c.self.inside.program c.self.inside.rate c.self.inside.heap c.self.inside.channels.items c.self.inside.pulled.items c.self.inside.frames c.self.inside.pulls c.self.inside.spent c.self.invariant c.in_default.is laws.ordered laws.free laws.made laws.tall c.args.c c.in-Some-unit_at.unit.0.0 found walk.0 walk.1 c.drive.new.heap walk.2 (omega (arith, l.live, l.within)) _ c.self.view_is
+
+pub returns-in_default-unit_at-clause-fills : goal.returns-in_default-unit_at-clause-fills
+returns-in_default-unit_at-clause-fills c =
+    let over = over_at c.self.inside.program c.self.inside.rate c.self.inside.heap c.self.inside.channels.items c.self.inside.pulled.items c.self.inside.frames c.self.inside.pulls c.self.inside.spent c.self.invariant c.in_default.is c.args.c (subst (λ (e : EngineState). c.args.c < length e.channels) (sym c.self.view_is) c.requires.channel) (ap (λ os. unit_at c.self.inside.heap os c.args.c) (sym c.as_slice.ensures.value) ∙ sym c.in_default-unit_at.ensures.unit) in
+    fills_nothing c.self.inside.program c.self.inside.rate c.self.inside.heap c.self.inside.channels.items c.self.inside.pulled.items c.self.inside.frames c.self.inside.pulls c.self.inside.spent c.self.invariant c.in_default.is c.args.c (subst (λ (e : EngineState). c.args.c < length e.channels) (sym c.self.view_is) c.requires.channel) over c.args.self.now c.self.view_is
+
+pub returns-in_default-unit_at-clause-follows : goal.returns-in_default-unit_at-clause-follows
+returns-in_default-unit_at-clause-follows c = λ unspent. follows c.self.inside.program c.self.inside.rate c.self.inside.heap c.self.inside.channels.items c.self.inside.pulled.items c.self.inside.frames c.self.inside.pulls c.self.inside.spent c.self.invariant c.in_default.is c.args.self.now c.self.view_is
+
+pub returns-in-Some-clause-follows : goal.returns-in-Some-clause-follows
+returns-in-Some-clause-follows c = λ unspent. follows c.self.inside.program c.self.inside.rate c.self.inside.heap c.self.inside.channels.items c.self.inside.pulled.items c.self.inside.frames c.self.inside.pulls c.self.inside.spent c.self.invariant (ap (λ (e : EngineState). e.spent) c.self.view_is ∙ unspent) c.args.self.now c.self.view_is
