@@ -9,6 +9,7 @@ mod adding;
 mod attaching;
 mod filling;
 mod heap;
+mod kinds;
 mod make;
 mod mixing;
 mod reading;
