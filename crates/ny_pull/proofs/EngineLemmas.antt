@@ -1,5 +1,5 @@
 -- What a pull of a channel does to the state that contracts see.
-use Rattle.std.proofs.Common.{◌≡◌, ◌≢◌, inl, inr, ℕ, zero, suc, ◌+◌, ◌*◌, ◌<◌, ◌≤◌, Bool, true, false, nat_lt, IsSomeAnd, IsTrue, if◌then◌else◌, List, [], ◌∷◌, ◌++◌, length, map, take, drop, sum, slice_get, slice_index, slice_index_or, slice_set, Option, None, Some, refl, sym, ap, subst, ◌∙◌, arith, ℤ, length-take, length-drop}
+use Rattle.std.proofs.Common.{◌≡◌, inl, inr, ℕ, zero, suc, ◌+◌, ◌*◌, ◌<◌, ◌≤◌, List, [], ◌∷◌, ◌++◌, length, map, take, drop, sum, slice_get, slice_index, slice_index_or, slice_set, Option, None, Some, refl, sym, ap, subst, ◌∙◌, arith, ℤ}
 use Rattle.std.proofs.lemmas.Bool.{cases_eq}
 use Rattle.std.proofs.lemmas.List.{length-set}
 use Rattle.std.proofs.lemmas.Nat.{mul-le}
@@ -12,7 +12,7 @@ use Rattle.ny_check.specs.Code.{Code}
 use Rattle.ny_check.specs.Channels.{channels}
 use Rattle.ny_check.specs.Heights.{height_of}
 use Rattle.std.specs.List.{fold}
-use Rattle.ny_heap.specs.Heap.{Node, HeapState, node_at, is_open, list_of, place_of, open_unit, live_of}
+use Rattle.ny_heap.specs.Heap.{HeapState, list_of, place_of, open_unit, live_of}
 use Rattle.ny_heap.specs.Reach.{HeapLaws, IsTrimmed}
 use Rattle.ny_heap.specs.Means.{Parts, Whole, Means, KeepsMeaning, sound_in}
 use Rattle.ny_heap.specs.Steps.{IsHeldSound, Passes, advanced, run_of, computed_in}
@@ -32,7 +32,7 @@ use Rattle.ny_eval.proofs.PlayingLemmas.{drives_channel, stops_channel, within, 
 use Rattle.ny_eval.proofs.ReadingLemmas.{Read, read_channel}
 use Rattle.ny_pull.specs.declared.fault.PullFault.{PullFault}
 use Rattle.ny_pull.specs.declared.fault.PullFault.TheVariants.{PoolFull, OutOfMemory}
-use Rattle.ny_pull.specs.Engine.{EngineState, channel_at, passed_of, next_block, HasEnded, with_pull, SamePiece, Leaves}
+use Rattle.ny_pull.specs.Engine.{EngineState, with_pull, Leaves}
 use Rattle.ny_pull.specs.Inside.{HasGiven, samples_of, IsEngineInside}
 use Rattle.ny_pull.specs.Places.{unit_at, ReadsAt}
 

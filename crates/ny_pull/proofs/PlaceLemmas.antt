@@ -1,5 +1,5 @@
 -- The channel at a place.
-use Rattle.std.proofs.Common.{◌≡◌, ℕ, zero, suc, ◌+◌, ◌<◌, Bool, true, false, not, List, [], ◌∷◌, ◌++◌, take, drop, refl, subst, arith, Option, None, Some, length, slice_get, slice_index_or, sym, ap, ◌∙◌}
+use Rattle.std.proofs.Common.{◌≡◌, ℕ, zero, suc, ◌<◌, Bool, true, false, not, List, [], ◌∷◌, ◌++◌, take, refl, subst, arith, Option, None, Some, length, slice_get, slice_index_or, sym, ap, ◌∙◌}
 use Rattle.std.proofs.lemmas.Option.{slice_get-get_or}
 use Rattle.ny_heap.specs.declared.sound.Sound.{Sound}
 use Rattle.ny_hands.proofs.OptionLemmas.{some_same}

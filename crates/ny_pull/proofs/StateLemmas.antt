@@ -1,17 +1,15 @@
 -- What a contract is told of a pull of channel c.
-use Rattle.std.proofs.Common.{◌≡◌, ◌≢◌, ℕ, zero, suc, ◌+◌, ◌*◌, ◌<◌, ◌≤◌, Bool, true, false, nat_lt, IsTrue, if◌then◌else◌, List, [], ◌∷◌, length, take, drop, sum, slice_get, slice_index, slice_index_or, slice_set, Option, None, Some, is_none, refl, sym, ap, subst, ◌∙◌, arith, length-take, length-drop}
+use Rattle.std.proofs.Common.{◌≡◌, ◌≢◌, ℕ, zero, suc, ◌*◌, ◌<◌, ◌≤◌, Bool, true, false, nat_lt, IsTrue, if◌then◌else◌, List, [], ◌∷◌, length, take, drop, slice_get, slice_index, slice_index_or, slice_set, Option, None, Some, is_none, refl, sym, ap, subst, ◌∙◌, arith, length-take, length-drop}
 use Rattle.std.proofs.lemmas.Bool.{lt-ltb}
 use Rattle.ny_num.specs.declared.rate.Rate.{Rate}
-use Rattle.ny_num.specs.Sound.{silence}
 use Rattle.ny_check.specs.Code.{Code}
 use Rattle.ny_check.specs.Channels.{channels}
 use Rattle.std.specs.Prelude.{◌&&◌, ◌||◌}
 use Rattle.std.specs.List.{list_any}
-use Rattle.ny_heap.specs.Heap.{Node, HeapState, node_at, is_open, list_of, open_unit, live_of, free_of}
+use Rattle.ny_heap.specs.Heap.{Node, HeapState, is_open, list_of, open_unit, live_of, free_of}
 use Rattle.ny_heap.specs.Revealing.{waits_at, has_waiting}
 use Rattle.ny_eval.specs.declared.walk.DriveFault.TheVariants as drive_faults
-use Rattle.ny_heap.specs.Reach.{HeapLaws, IsTrimmed}
-use Rattle.ny_heap.specs.Steps.{Passes, advanced}
+use Rattle.ny_heap.specs.Reach.{HeapLaws}
 use Rattle.ny_heap.specs.declared.sound.Sound.{Sound}
 use Rattle.ny_hands.specs.declared.branch.Branch.{Branch}
 use Rattle.ny_hands.proofs.OptionLemmas.{some_same}
@@ -19,11 +17,11 @@ use Rattle.ny_walk.specs.Walk.{Walks}
 use Rattle.ny_walk.specs.Stops.{StopsAtFull as WalkStops, FindsNoneFree, RunsOut, NoneWaits}
 use Rattle.ny_eval.specs.Playing.{ArePlaying}
 use Rattle.ny_pull.specs.declared.fault.PullFault.{PullFault}
-use Rattle.ny_pull.specs.declared.fault.PullFault.TheVariants.{PoolFull, OutOfMemory}
-use Rattle.ny_pull.specs.Engine.{EngineState, channel_at, passed_of, next_block, HasEnded, IsReadByChannels, with_pull, SamePiece, MeansItsChannels, Leaves, GivesBlock, StopsAtFull, NeedsMore, LacksMemory, full_of}
-use Rattle.ny_pull.specs.Inside.{HasGiven, samples_of, IsEngineInside}
+use Rattle.ny_pull.specs.declared.fault.PullFault.TheVariants.{OutOfMemory}
+use Rattle.ny_pull.specs.Engine.{EngineState, channel_at, passed_of, next_block, HasEnded, IsReadByChannels, with_pull, SamePiece, MeansItsChannels, GivesBlock, StopsAtFull, NeedsMore, LacksMemory}
+use Rattle.ny_pull.specs.Inside.{samples_of, IsEngineInside}
 use Rattle.ny_pull.specs.Places.{ReadsAt}
-use Rattle.ny_pull.proofs.EngineLemmas.{state, samples_at, none_spent}
+use Rattle.ny_pull.proofs.EngineLemmas.{state, samples_at}
 
 module _ (code : Code) (rate : Rate) (os : List (Option Sound)) (pulled : List ℕ) (spent : Option PullFault) (h : HeapState Branch) (e : EngineState) (is : state code rate os pulled spent h ≡ e) (c : ℕ) where
   pub next_is : take h.block (drop (slice_index pulled c * h.block) (slice_index_or (samples_of code rate) c [])) ≡ next_block e c

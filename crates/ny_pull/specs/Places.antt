@@ -1,5 +1,5 @@
 -- The channels of an engine by their places.
-use Rattle.std.specs.Prelude.{◌≡◌, ℕ, ◌+◌, ◌<◌, max, List, [], ◌∷◌, ◌++◌, Option, None, Some, map, length, slice_get, slice_set, slice_index_or}
+use Rattle.std.specs.Prelude.{◌≡◌, ℕ, max, List, [], ◌∷◌, ◌++◌, Option, None, Some, map, length, slice_get, slice_set, slice_index_or}
 use Rattle.ny_heap.specs.Heap.{HeapState, list_of, place_of, open_unit}
 use Rattle.ny_heap.specs.Means.{KeepsMeaning}
 use Rattle.ny_heap.specs.Reach.{HeapLaws, IsTrimmed}

@@ -193,7 +193,7 @@ impl Engine {
         self.channels.as_slice().len() as u32
     }
 
-    /// How many frames there are: one for each sample of the channel.
+    /// How many frames there are: one for each sample of the longest channel.
     pub fn frames(&self) -> u32
         ensures { result ≡ longest (channels self.now.code self.now.rate) }
     {

@@ -1,4 +1,4 @@
-use Rattle.std.proofs.Common.{◌≡◌, ◌+◌, ◌≤◌, ◌∷◌, ◌++◌, [], List, Option, Some, length, sym, ap, subst, ◌∙◌, arith}
+use Rattle.std.proofs.Common.{◌≡◌, ◌∷◌, List, Option, length, sym, ap, subst, arith}
 use Rattle.ny_heap.specs.declared.sound.Sound.{Sound}
 use Rattle.ny_hands.proofs.HeapLemmas.{counts_more}
 use Rattle.ny_pull.specs.Places.{HaveBegun}

@@ -1,4 +1,4 @@
-use Rattle.std.proofs.Common.{◌≡◌, ◌<◌, ◌++◌, List, Option, None, Some, length, take, drop, slice_get, slice_index_or, slice_set, sym, ap, subst, ◌∙◌}
+use Rattle.std.proofs.Common.{◌≡◌, ◌++◌, take, drop, sym, subst, ◌∙◌}
 use Rattle.ny_heap.specs.Heap.{list_of, place_of}
 use Rattle.ny_heap.specs.Means.{sound_in}
 use Rattle.ny_heap.specs.declared.sound.Sound.{Sound as SoundOf}

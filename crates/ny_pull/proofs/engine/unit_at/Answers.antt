@@ -1,5 +1,4 @@
-use Rattle.std.proofs.Common.{None, Some, sym, ap, ◌∙◌}
-use Rattle.ny_heap.specs.Heap.{HeapState}
+use Rattle.std.proofs.Common.{sym, ap, ◌∙◌}
 use Rattle.ny_pull.specs.Places.{unit_of}
 use Rattle.ny_pull.proofs.PlaceLemmas.{got, got_none}
 use Rattle.ny_pull.proofs.engine.unit_at.Goals as goal

@@ -1,7 +1,4 @@
-use Rattle.std.proofs.Common.{◌≡◌, ◌≤◌, ℕ, List, length, None, refl, sym, ap, ◌∙◌, arith, Option}
-use Rattle.ny_check.specs.Channels.{channels}
-use Rattle.ny_heap.specs.declared.sound.Sound.{Sound}
-use Rattle.ny_eval.specs.Opened.{zeros}
+use Rattle.std.proofs.Common.{length, None, refl, ap, ◌∙◌, arith}
 use Rattle.ny_pull.specs.declared.fault.PullFault.TheVariants.{OutOfMemory}
 use Rattle.ny_pull.specs.Inside.{IsEngineInside}
 use Rattle.ny_pull.specs.Places.{longest_of}
