@@ -1,5 +1,5 @@
 -- How the kept blocks of each kind are counted.
-use Rattle.std.proofs.Common.{◌≡◌, ◌≢◌, inl, inr, ℕ, zero, suc, ◌+◌, ◌<◌, ◌≤◌, Bool, true, false, cond, nat_eq, List, [], ◌∷◌, length, get_or, map, set, Option, None, Some, sum_by, refl, sym, ap, ◌∙◌, arith}
+use Rattle.std.proofs.Common.{◌≡◌, ◌≢◌, inl, inr, ℕ, zero, suc, ◌+◌, ◌<◌, ◌≤◌, Bool, true, false, cond, nat_eq, List, [], ◌∷◌, length, get_or, map, set, Option, None, Some, IsSome, is_some, sum_by, refl, sym, ap, ◌∙◌, arith}
 use Rattle.std.proofs.lemmas.Bool.{eq-eqb, ne_eqb}
 use Rattle.std.proofs.lemmas.List.FromFn.{length-map-range_with_len}
 use Rattle.std.proofs.lemmas.List.Sums.{sum_by-cons}
@@ -121,6 +121,17 @@ module _ (t : Table) where
   pub counted_none : (v : ℕ) → unit_at t v ≡ None → kept_below t v ≡ kept_below t (v + 1)
   counted_none v none =
       tab_same (λ place. sum_below (kept_as t place) v) (λ place. sum_below (kept_as t place) (v + 1)) 18 0 (λ k inside. omega (arith, one_more (kept_as t k) v, as_none k v none))
+
+-- what a store tells of a unit's list
+module _ (t : Table) (table : IsTable t []) (v : ℕ) (x : UnitData) (there : unit_at t v ≡ Some x) where
+  its_list : (l : ListState) × (list_at t.store x.list ≡ Some l) × (list_at t.store v ≡ Some l)
+  its_list = let u = table.units v x there in (u.0, ap (list_at t.store) u.2.end ∙ u.1, u.1)
+
+  pub list_there : IsSome (list_at t.store x.list)
+  list_there = ap is_some its_list.1
+
+  pub kept_told : (n : ℕ) → ((l : ListState) → list_at t.store x.list ≡ Some l → n ≡ lists.kept_of l) → n ≡ kept_in_list t.store v
+  kept_told n told = told its_list.0 its_list.1 ∙ sym (ap (λ (o : Option ListState). option_map_or {U = ℕ} lists.kept_of o 0) its_list.2)
 
 -- ---- what is seen
 

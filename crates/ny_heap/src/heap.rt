@@ -12,12 +12,11 @@ ghost use Rattle.ny_heap.specs.Steps.{IsHeldSound, with_sound, without_sound, wi
 
 use crate::adding::make_unit;
 use crate::attaching::{any_waits, attach_part, hand_out, last_stop_of};
+use crate::blocks::{drop_reader, read_next};
 use crate::filling::fill_block;
 use crate::kinds::kept_by_kind;
 use crate::make::Make;
 use crate::mixing::{drop_parts, place_branches, split};
-use crate::reading::read_next;
-use crate::removal::drop_reader;
 use crate::revealing::{first_branch, is_due, take_branch};
 use crate::sharing::{moved, readers, share_reader};
 use crate::sound::{Sound, begin, list_in, same_timing};
