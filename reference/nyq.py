@@ -1556,6 +1556,7 @@ class Host:
 
 OK, USAGE, OPEN_FAULT, READ_FAULT, WRITE_FAULT, REFUSED, POOL_FULL = 0, 2, 3, 4, 5, 6, 8
 LONGEST_TEXT = 1048576
+GATHERED = 65536
 DEFAULTS = {"--pool": 16384, "--block": 1024, "--rate": 44100}
 ALLOWED = {"--pool": range(1, 65537), "--block": range(16, 4097), "--rate": RATES}
 
@@ -1644,6 +1645,25 @@ def accepted(text):
         raise End(REFUSED, "refused: check %d %s" % (fault.at, fault.why))
 
 
+def write_rounds(engine, host):
+    """Writes the frames of all rounds, and tells whether the pool was full before the last. Rounds are gathered, and written
+    by one call where no room for one more is left, at the end, and where the pool is full."""
+    everyone = range(len(engine.channels))
+    gathered, longest, full = b"", 2 * len(engine.channels) * engine.block, False
+    while not full and not all(engine.ended(c) for c in everyone):
+        try:
+            rows = [[] if engine.ended(c) else engine.pull(c) for c in everyone]
+        except PoolFull:
+            full = True
+        else:
+            if len(gathered) + longest > GATHERED:
+                host.write_all(gathered)
+                gathered = b""
+            gathered += frame_bytes(rows)
+    host.write_all(gathered)
+    return full
+
+
 def render(engine, rate, host, out):
     try:
         host.create(out)
@@ -1651,13 +1671,10 @@ def render(engine, rate, host, out):
         raise End(OPEN_FAULT, "fault: create " + out)
     try:
         host.write_all(wav_header(len(engine.channels), rate, engine.frames()))
-        everyone = range(len(engine.channels))
-        while not all(engine.ended(c) for c in everyone):
-            rows = [[] if engine.ended(c) else engine.pull(c) for c in everyone]
-            host.write_all(frame_bytes(rows))
+        full = write_rounds(engine, host)
     except Failed:
         raise End(WRITE_FAULT, "")
-    except PoolFull:
+    if full:
         raise End(POOL_FULL, "pool full after %d pulls" % engine.pulls)
 
 

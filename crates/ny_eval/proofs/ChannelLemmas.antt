@@ -13,7 +13,7 @@ use Rattle.ny_hands.specs.Calls.{MakesUnit}
 use Rattle.ny_hands.specs.Hands.{Hand, InHand, GivesUp}
 use Rattle.ny_hands.proofs.HandLemmas.{hand_made}
 use Rattle.ny_hands.proofs.SpendLemmas.{hand_brought}
-use Rattle.ny_eval.specs.Channels.{ChannelTurn, ChannelsTurn}
+use Rattle.ny_trace.specs.Channels.{ChannelTurn, ChannelsTurn}
 use Rattle.ny_eval.specs.Mixing.{ComeFor}
 use Rattle.ny_eval.proofs.AnswerLemmas.{all_one}
 use Rattle.ny_eval.proofs.MixingLemmas.{hand_behind}

@@ -14,10 +14,12 @@ use Rattle.ny_units.specs.declared.leaves.Leaf.{Leaf as LeafOf}
 use Rattle.ny_units.specs.declared.leaves.Leaf.TheVariants.{Const, Osc, HzOsc, Noise, Ramp, Lfo}
 use Rattle.ny_units.specs.Playing.{leaf_value}
 use Rattle.ny_heap.specs.Heap.{Made, HeapState}
+use Rattle.ny_heap.specs.Kinds.{UnitKind, kind_of_leaf}
 use Rattle.ny_heap.specs.declared.make.Make.TheVariants.{Leaf}
 use Rattle.ny_heap.specs.declared.sound.Sound.{Sound}
 use Rattle.ny_hands.specs.declared.branch.Branch.{Branch}
 use Rattle.ny_hands.specs.Calls.{MakesUnit}
+use Rattle.ny_hands.specs.Kinds.{kind_of_generator, IsOfKind}
 use Rattle.ny_trace.specs.Evaluates.{LeafTurn}
 
 -- ---- loudness
@@ -99,12 +101,17 @@ lfo_is env hz d number inc t at_hz when at_inc =
 pub by_row : (g row : Generator) (env : Env) (ns : List ℤ) (t : Timing) (l : LeafOf) → g ≡ row → t ≡ leaf_time g env ns → (t ≡ leaf_time row env ns → leaves.leaf t (leaf_value l) ≡ leaf_sound row env ns) → leaves.leaf t (leaf_value l) ≡ leaf_sound g env ns
 by_row g row env ns t l is when gives = gives (when ∙ ap (λ x. leaf_time x env ns) is) ∙ ap (λ x. leaf_sound x env ns) (sym is)
 
+-- and it is of the row's kind
+pub kind_by_row : (g row : Generator) (k : UnitKind) → g ≡ row → IsOfKind (kind_of_generator row) k → IsOfKind (kind_of_generator g) k
+kind_by_row g row k is kind = subst (λ w. IsOfKind (kind_of_generator w) k) (sym is) kind
+
 -- the unit of a leaf of these numbers
-pub leaf_turn : (old new : HeapState Branch) (g : Generator) (env : Env) (timed seen ns : List ℤ) (t : Timing) (l : LeafOf) (s : Sound) → timed ≡ ns → seen ≡ ns → t ≡ leaf_time g env timed → leaves.leaf t (leaf_value l) ≡ leaf_sound g env seen → MakesUnit old new (Made (Leaf l)) t [] [] [] s → LeafTurn g env ns old new s
-leaf_turn old new g env timed seen ns t l s same_time same when sound makes =
+pub leaf_turn : (old new : HeapState Branch) (g : Generator) (env : Env) (timed seen ns : List ℤ) (t : Timing) (l : LeafOf) (s : Sound) → timed ≡ ns → seen ≡ ns → t ≡ leaf_time g env timed → leaves.leaf t (leaf_value l) ≡ leaf_sound g env seen → IsOfKind (kind_of_generator g) (kind_of_leaf l) → MakesUnit old new (Made (Leaf l)) t [] [] [] s → LeafTurn g env ns old new s
+leaf_turn old new g env timed seen ns t l s same_time same when sound kind makes =
     let now : t ≡ leaf_time g env ns = when ∙ ap (leaf_time g env) same_time in
     record {
       played = l;
       is = ap (λ (u : Timing). leaves.leaf u (leaf_value l)) (sym now) ∙ (sound ∙ ap (leaf_sound g env) same);
+      kind = kind;
       made = subst (λ (u : Timing). MakesUnit old new (Made (Leaf l)) u [] [] [] s) now makes;
     }

@@ -32,7 +32,7 @@ use Rattle.ny_trace.proofs.HeightLemmas.{from_trimmed}
 use Rattle.ny_walk.specs.Below.{IsSettled}
 use Rattle.ny_walk.proofs.PartsStepLemmas.{parts_plain, parts_brought}
 use Rattle.ny_walk.proofs.FitStepLemmas.{fit_plain, fit_brought}
-use Rattle.ny_eval.specs.Channels.{ChannelTurn, ChannelsTurn}
+use Rattle.ny_trace.specs.Channels.{ChannelTurn, ChannelsTurn}
 use Rattle.ny_eval.specs.Opened.{IsEmpty}
 use Rattle.ny_eval.specs.Ready.{IsReady}
 use Rattle.ny_eval.proofs.FreshLemmas.{AllFresh, fresh_behind, fresh_new, all_fresh_made, all_fresh_brought}

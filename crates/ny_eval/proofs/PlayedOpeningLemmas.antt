@@ -20,7 +20,7 @@ use Rattle.ny_trace.specs.Plays.{Plays, PlaysItems}
 use Rattle.ny_trace.proofs.PlaysLemmas.{plays_lawful}
 use Rattle.ny_trace.proofs.PlaysSettlingLemmas.{plays_settling}
 use Rattle.ny_walk.proofs.PlaysLemmas.{plays_parts, plays_fit}
-use Rattle.ny_eval.specs.Channels.{ChannelsTurn}
+use Rattle.ny_trace.specs.Channels.{ChannelsTurn}
 use Rattle.ny_eval.specs.Opened.{IsEmpty, AreOpened}
 use Rattle.ny_eval.proofs.OpenedLemmas.{are_opened}
 use Rattle.ny_eval.proofs.OpeningLemmas.{Opening, channel_items, opening_all, items_sounds, items_are}

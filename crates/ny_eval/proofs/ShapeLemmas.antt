@@ -13,9 +13,11 @@ use Rattle.ny_filters.specs.Filtering.{IsFilter, silent, outputs_after}
 use Rattle.ny_filters.specs.declared.filter.Filter.{Filter as FilterOf}
 use Rattle.ny_filters.specs.declared.filter.Filter.TheVariants as filter
 use Rattle.ny_heap.specs.Heap.{Filtered}
+use Rattle.ny_heap.specs.Kinds.{kind_of_make}
 use Rattle.ny_heap.specs.Means.{made_value}
 use Rattle.ny_heap.specs.declared.make.Make.TheVariants as make
 use Rattle.ny_heap.specs.declared.make.Make.{Make}
+use Rattle.ny_hands.specs.Kinds.{kind_of_effect}
 use Rattle.ny_hands.specs.Made.{made_with, IsSingle}
 use Rattle.ny_check.specs.declared.node.Effect.{Effect}
 use Rattle.ny_check.specs.declared.node.Effect.TheVariants as effect
@@ -81,3 +83,13 @@ effect_single w ns rate unit is = subst IsSingle (sym is) (by_effect w)
 -- the unit makes of any sound of this rate what the effect does
 pub effect_made : (w : Effect) (ns numbers : List ℤ) (rate : Rate) (unit : Make) → unit ≡ make_of w ns rate → ns ≡ numbers → (m : sounds.Sound) → m.rate ≡ rate → made_with unit m ≡ effect_sound w numbers m
 effect_made w ns numbers rate unit is same m at = ap (λ k. made_with k m) (is ∙ ap (make_of w ns) (sym at)) ∙ (effect_is w ns m ∙ ap (λ k. effect_sound w k m) same)
+
+-- and it is of the effect's kind
+pub effect_kind : (w : Effect) (ns : List ℤ) (rate : Rate) (unit : Make) → unit ≡ make_of w ns rate → kind_of_make unit ≡ kind_of_effect w
+effect_kind w ns rate unit is = ap kind_of_make is ∙ by_effect w
+  where
+    by_effect : (v : Effect) → kind_of_make (make_of v ns rate) ≡ kind_of_effect v
+    by_effect effect.Abs = refl
+    by_effect effect.OnePole = refl
+    by_effect effect.Biquad = refl
+    by_effect effect.Comb = refl

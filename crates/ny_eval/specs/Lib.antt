@@ -1,4 +1,3 @@
-pub mod Channels
 pub mod Framed
 pub mod Knots
 pub mod Mixing

@@ -3,7 +3,7 @@
 ghost use Rattle.std.specs.Prelude.{◌≡◌, ◌≤◌, [], ◌∷◌, ◌++◌, length, IfOk, OnOk, OnErr, vec_capacity};
 ghost use Rattle.ny_hands.specs.Counts.{SameCounts};
 ghost use Rattle.ny_hands.specs.Hands.{Hand, InHand, GivesUp};
-ghost use Rattle.ny_eval.specs.Channels.{ChannelTurn, ChannelsTurn};
+ghost use Rattle.ny_trace.specs.Channels.{ChannelTurn, ChannelsTurn};
 ghost use Rattle.ny_eval.specs.Mixing.{ComeFor};
 ghost use Rattle.ny_eval.specs.Opened.{IsEmpty, AreOpened};
 

@@ -4,11 +4,13 @@ ghost use Rattle.ny_num.specs.Sound.{IsTiming};
 ghost use Rattle.ny_check.specs.Code.{AllBelow};
 ghost use Rattle.ny_check.specs.Families.{leaf_sound, leaf_time};
 ghost use Rattle.ny_heap.specs.Heap.{Made};
+ghost use Rattle.ny_heap.specs.Kinds.{kind_of_leaf};
 ghost use Rattle.ny_heap.specs.Reach.{HeapLaws};
 ghost use Rattle.ny_heap.specs.declared.make.Make.TheVariants.{Leaf as MakesLeaf};
 ghost use Rattle.ny_units.specs.Playing.{leaf_value, IsLeaf, Reaches};
 ghost use Rattle.ny_hands.specs.Calls.{MakesUnit, IsSilent};
 ghost use Rattle.ny_hands.specs.Hands.{Hand, GivesUp};
+ghost use Rattle.ny_hands.specs.Kinds.{kind_of_generator, IsOfKind};
 ghost use Rattle.ny_eval.specs.Framed.{names_in};
 ghost use Rattle.ny_trace.specs.Evaluates.{LeafTurn, numbers_in};
 
@@ -85,6 +87,7 @@ fn unit_of(
 ) -> Result<Leaf, AllocError>
     requires { timing.now ≡ leaf_time generator env.now numbers.now }
     ensures sound { IfOk result (λ unit. leaf timing.now (leaf_value unit) ≡ leaf_sound generator env.now numbers.now) }
+    ensures kind { IfOk result (λ unit. IsOfKind (kind_of_generator generator) (kind_of_leaf unit)) }
     ensures heard { IfOk result (λ unit. 0 < timing.now.len → IsLeaf unit × Reaches unit timing.now.len) }
 {
     env.never_falls();

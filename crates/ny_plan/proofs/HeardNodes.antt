@@ -36,7 +36,7 @@ use Rattle.ny_scope.proofs.Mapped.{last_of-with, last_of-has}
 use Rattle.ny_resolve.specs.Keys.{same_name}
 use Rattle.std.proofs.lemmas.List.Elements.{All-from_recursion}
 use Rattle.ny_heap.specs.Kinds.{UnitKind, Mix}
-use Rattle.ny_plan.specs.Kinds.{kind_of_generator, kind_of_effect}
+use Rattle.ny_hands.specs.Kinds.{kind_of_generator, kind_of_effect}
 use Rattle.ny_plan.specs.Rows.{RowSound, Input, Row, After, Step, row_at, given, and_then, each, shown, silent, input}
 use Rattle.ny_plan.specs.Units.{leaf_by, leaf_made, row_over, brought, paired, negated, cued, Part, parts_together, coming, next_part, parts_after, parts_in_turn, parts_in, counted_from, mixed}
 use Rattle.ny_plan.specs.Order.{IsBelow, IsValueBelow, AreNamesBelow, AllRows, Leaves}

@@ -43,7 +43,7 @@ use Rattle.ny_num.specs.Pointwise.{combined, each_value}
 use Rattle.ny_kernels.specs.Operations.{operation}
 use Rattle.ny_check.specs.Families.{pair_timing, leaf_time, leaf_sound, effect_sound, changed_env}
 use Rattle.ny_heap.specs.Kinds.{UnitKind, Mix, Sub, Mul, kind_of_op}
-use Rattle.ny_plan.specs.Kinds.{kind_of_generator, kind_of_effect}
+use Rattle.ny_hands.specs.Kinds.{kind_of_generator, kind_of_effect}
 use Rattle.ny_plan.specs.Need.{takes_as}
 use Rattle.ny_plan.specs.Rows.{RowSound, Input, Row, Step, row_at, no_row, given, and_then, each, shown, silent, input, unit}
 use Rattle.ny_plan.specs.Units.{first, second, leaf_by, row_over, brought, paired, negated, cued, Part, parts_together, coming, next_part, parts_after, parts_in_turn, parts_in, counted_from, mixed, channel_row}

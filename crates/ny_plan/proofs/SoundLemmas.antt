@@ -16,7 +16,7 @@ use Rattle.ny_check.specs.declared.node.Effect.{Effect}
 use Rattle.ny_check.specs.declared.node.Effect.TheVariants as effect
 use Rattle.ny_num.specs.Filters.{comb_delay}
 use Rattle.ny_check.specs.Behaviours.{sustained_timing, plain_timing, envelope_end, const_sound, rest_sound, ramp_sound, osc_sound, hzosc_sound, lfo_sound, noise_sound, envelope_sound, rest_timing}
-use Rattle.ny_plan.specs.Kinds.{kind_of_generator}
+use Rattle.ny_hands.specs.Kinds.{kind_of_generator}
 use Rattle.ny_plan.proofs.OrderLemmas.{no_value}
 
 pub resampled_same : (rate : Rate) (m : sounds.Sound) → is_same_rate m.rate rate ≡ true → resampled rate m ≡ m

@@ -21,7 +21,7 @@ use Rattle.ny_check.specs.Code.{Code, node_at, function_at}
 use Rattle.ny_check.specs.Recursion.{by_smaller}
 use Rattle.ny_check.specs.Values.{scalars_of, scalar_of, number_of, test_of}
 use Rattle.ny_check.specs.Families.{effect_sound, changed_env}
-use Rattle.ny_plan.specs.Kinds.{kind_of_effect}
+use Rattle.ny_hands.specs.Kinds.{kind_of_effect}
 use Rattle.ny_plan.specs.Rows.{RowSound, Plan, Step, given, and_then, each, silent}
 use Rattle.ny_plan.specs.Units.{Part, leaf_made, row_over, brought, paired, negated, cued, parts_in, mixed, channel_row}
 

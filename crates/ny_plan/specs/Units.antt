@@ -23,7 +23,7 @@ use Rattle.ny_check.specs.Behaviours.{is_one, cue_timing}
 use Rattle.ny_check.specs.Families.{pair_timing, leaf_time, leaf_sound}
 use Rattle.ny_check.specs.declared.node.Generator.{Generator}
 use Rattle.ny_heap.specs.Kinds.{UnitKind, Sub, Mul, Resample, Mix, Channel, kind_of_op}
-use Rattle.ny_plan.specs.Kinds.{kind_of_generator}
+use Rattle.ny_hands.specs.Kinds.{kind_of_generator}
 use Rattle.ny_plan.specs.Rows.{RowSound, Input, Step, given, and_then, each, shown, silent, input, unit}
 
 -- the first and the second of the sounds that a unit is made of

@@ -1,19 +1,19 @@
 -- Frames: how the blocks of several channels become a round's frames, and how many frames there are.
-use Rattle.std.proofs.Common.{◌≡◌, ℕ, zero, suc, ◌+◌, ◌-◌, ◌*◌, ◌<◌, ◌≤◌, min, pos, ℤ, List, [], ◌∷◌, ◌++◌, map, take, drop, length, sym, ap, ◌∙◌, arith, slice_index_or, length-take, length-drop, length-append, add-one, mul_comm}
+use Rattle.std.proofs.Common.{◌≡◌, ℕ, zero, suc, ◌+◌, ◌-◌, ◌*◌, ◌<◌, ◌≤◌, min, pos, ℤ, List, [], ◌∷◌, ◌++◌, map, take, drop, length, refl, sym, ap, ◌∙◌, arith, slice_index_or, length-take, length-drop, length-append, add-one, mul_comm}
 use Rattle.std.specs.List.{flat_map, range_with_len}
 use borrow.Rule.Slice.PartMut.{put_mid}
-use Rattle.std.proofs.lemmas.List.{ext_get_or, get_or-map, length-map, get_or-take, get_or-drop, take_at, append_assoc, append-nil}
+use Rattle.std.proofs.lemmas.List.{ext_get_or, get_or-map, length-map, get_or-take, get_or-drop, take_at, take_more, append_assoc, append-nil}
 use Rattle.std.proofs.lemmas.List.Concat.{flat_map-append}
 use Rattle.std.proofs.lemmas.List.Folds.{flat_map-map}
 use Rattle.std.proofs.lemmas.List.FromFn.{length-map-range_with_len, get_or-map-range_with_len, map-range_with_len_more}
-use Rattle.std.proofs.lemmas.Slice.{drop-append-drop}
+use Rattle.std.proofs.lemmas.Slice.{drop-append-drop, take-put_mid}
 use Rattle.ny_num.specs.Sound as sounds
 use Rattle.ny_num.specs.Sound.{silence, value_at}
 use Rattle.ny_check.specs.Channels.{channels, frame, frames, longest}
 use Rattle.ny_pull.specs.Engine.{EngineState}
 use Rattle.ny_num.proofs.PartAdded.{part_added}
 use Rattle.ny_wav.specs.WavFile.{frame_of}
-use Rattle.ny_wav.proofs.Frames.{frames_of-joined}
+use Rattle.ny_wav.proofs.Frames.{frames_of-joined, length-frame_of}
 use Rattle.ny_top.specs.Frames.{row, AreBlocks}
 use Rattle.ny_top.specs.Rounds.{frames_at, bytes_of_round}
 use Rattle.ny_top.proofs.PullLemmas.{next_multiple, one_more, fewer_blocks}
@@ -121,6 +121,23 @@ rows_bytes channels block xs n =
     ap frame_of (sym (flat_map-map (λ (ys : List ℤ). ys) (row channels block xs) (range_with_len 0 n)))
     ∙ sym (frames_of-joined (map (row channels block xs) (range_with_len 0 n)))
 
+-- the frames of one channel are its samples
+rows_mono : (block : ℕ) (xs : List ℤ) (n : ℕ) → n ≤ length xs → rows 1 block xs n ≡ take n xs
+rows_mono block xs zero within = refl
+rows_mono block xs (suc n) within =
+    ap (λ k. rows 1 block xs k) (sym (add-one n))
+    ∙ rows_more 1 block xs n
+    ∙ ap (λ (ys : List ℤ). ys ++ row 1 block xs n) (rows_mono block xs n (omega (arith, within)))
+    ∙ (let first : 0 * block + n ≡ n = omega arith in ap (λ k. take n xs ++ slice_index_or xs k (pos 0) ∷ []) first)
+    ∙ sym (take_more xs n (pos 0) (omega (arith, within)))
+    ∙ ap (λ k. take k xs) (add-one n)
+
+pub mono_bytes : (channels block : ℕ) (xs : List ℤ) (n : ℕ) → channels ≡ 1 → n ≤ length xs → frame_of (take n xs) ≡ flat_map frame_of (map (row channels block xs) (range_with_len 0 n))
+mono_bytes channels block xs n one within =
+    ap frame_of (sym (rows_mono block xs n within))
+    ∙ rows_bytes 1 block xs n
+    ∙ ap (λ k. flat_map frame_of (map (row k block xs) (range_with_len 0 n))) (sym one)
+
 -- a sample of a block stands within the blocks
 pub place_within : (c n channels block len : ℕ) → c < channels → n < block → len ≡ channels * block → c * block + n < len
 place_within c n channels block len at less is = omega (arith, is, less, one_more c block, fewer_blocks (suc c) channels block at)
@@ -162,3 +179,12 @@ front_frames channels block count len xs first frames rest size is =
     ap (take (count * channels)) (take_at frames rest len size)
     ∙ ap (take (count * channels)) is
     ∙ take_at (rows channels block xs count) (drop (count * channels) first) (count * channels) (rows_length channels block xs count)
+
+-- ---- the buffer of bytes
+
+-- the bytes of samples are put behind what stands there
+pub put_behind : (at k n : ℕ) (bytes part : List ℕ) (xs : List ℤ) → part ≡ frame_of xs → n ≡ at + 2 * length xs → at + 2 * length xs ≤ length bytes
+    → take n (put_mid at k bytes part) ≡ take at bytes ++ frame_of xs
+put_behind at k n bytes part xs is size within =
+    take-put_mid at k bytes part n (size ∙ omega (arith, ap length is, length-frame_of xs)) (omega (arith, within))
+    ∙ ap (λ (ys : List ℕ). take at bytes ++ ys) is

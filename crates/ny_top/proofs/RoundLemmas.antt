@@ -1,9 +1,10 @@
 -- A file that is written in rounds, and the engine that is pulled for it.
 use Rattle.std.proofs.Common.{◌≡◌, ℕ, zero, suc, ◌+◌, ◌-◌, ◌*◌, ◌<◌, ◌≤◌, ◌⊎◌, List, [], ◌∷◌, ◌++◌, map, take, drop, length, Some, Result, Ok, Err, OnOk, OnErr, IfErr, refl, sym, ap, subst, ◌∙◌, arith, ℤ, pos, slice_index, slice_index_or, sum, length-append, length-take, length-drop, inl, inr}
 use Rattle.std.specs.Int.{div_ceil}
+use Rattle.std.specs.Result.{IsErrAnd}
 use Rattle.std.specs.List.{flat_map}
 use Rattle.std.proofs.lemmas.Bool.{cases_lt}
-use Rattle.std.proofs.lemmas.List.{take-append-drop, take-append-le, take_all, get_or_past, get_or-take, get_or_append_left, get_or-append_right}
+use Rattle.std.proofs.lemmas.List.{take-append-drop, take-append-le, take_all, append_assoc, append-nil, get_or_past, get_or-take, get_or_append_left, get_or-append_right}
 use Rattle.std.proofs.lemmas.List.Concat.{flat_map-append}
 use Rattle.std.proofs.Math.Seq.{take-add, take-append-add}
 use Rattle.ny_io.specs.Host.{HostState, NoneFell, SameCounts, written}
@@ -14,15 +15,16 @@ use Rattle.ny_check.specs.Channels.{channels, frames, longest}
 use Rattle.ny_pull.specs.declared.fault.PullFault.TheVariants as faults
 use Rattle.ny_pull.specs.Engine.{EngineState, channel_at, passed_of, SamePiece}
 use Rattle.ny_wav.specs.WavFile.{frame_of}
-use Rattle.ny_top.specs.Frames.{heard_at, IsBlock}
+use Rattle.ny_top.specs.Frames.{heard_at, IsBlock, gathered_in}
 use borrow.Rule.Slice.PartMut.{put_mid}
 use Rattle.std.proofs.lemmas.Slice.{take-put_mid}
 use Rattle.ny_top.specs.Playing.{pulls_of, pulls_in}
-use Rattle.ny_top.specs.Rounds.{IsUnderway, Wrote, WrotePart, IsPulledOut, IsPullFault, IsRoundFault, EndsRounds, frames_at, all_bytes, bytes_after, bytes_of_round}
+use Rattle.ny_top.specs.Rounds.{IsUnderway, Wrote, WrotePart, Gathered, IsPulledOut, IsPullFault, IsRoundFault, EndsRounds, frames_at, all_bytes, bytes_after, bytes_of_round}
 use Rattle.ny_top.proofs.FrameLemmas.{frames_count}
 use Rattle.ny_top.proofs.PulledLists.{map_at, same_counts, parted_all, parted_none}
 use Rattle.ny_top.proofs.PullLemmas.{no_samples, same_channel, some_left, none_left, next_multiple, one_more, fewer_blocks}
 use Rattle.ny_top.proofs.Stages.{rose_from, quiet_none, quiet_then}
+use Rattle.ny_top.specs.declared.frames.Buffers.{Buffers}
 use Rattle.ny_top.specs.declared.rounds.RoundFault.{RoundFault}
 use Rattle.ny_top.specs.declared.rounds.RoundFault.TheVariants.{Write, PoolFull, OutOfMemory}
 
@@ -48,29 +50,49 @@ part_then a b old mid new first part = (
   wrote_both a (take part.0 b) old mid new first part.2 ∙ ap (λ bytes. written bytes old.created) (sym (take-append-add a b part.0)),
 )
 
--- nothing is a first part of any bytes
-pub part_nothing : (a : List ℕ) (old new : HostState) → new.created ≡ old.created → WrotePart a old new
-part_nothing a old new same = (0, omega arith, same ∙ sym (written-nothing old.created))
+-- what is gathered, and more bytes
+gathered_more : (bytes first more : List ℕ) (b : Buffers) → bytes ≡ first ++ gathered_in b → bytes ++ more ≡ first ++ (gathered_in b ++ more)
+gathered_more bytes first more b is = ap (λ (xs : List ℕ). xs ++ more) is ∙ append_assoc first (gathered_in b) more
 
--- the frames of one block more
-pub more_frames : (fs : List (List ℤ)) (passed block : ℕ) (old mid new : HostState) → Wrote (flat_map frame_of (take passed fs)) old mid
-    → Wrote (flat_map frame_of (take block (drop passed fs))) mid new → Wrote (flat_map frame_of (take (passed + block) fs)) old new
-more_frames fs passed block old mid new before more =
-    wrote_both (flat_map frame_of (take passed fs)) (flat_map frame_of (take block (drop passed fs))) old mid new before more
-    ∙ ap (λ bytes. written bytes old.created) (sym (flat_map-append frame_of (take passed fs) (take block (drop passed fs))) ∙ ap (flat_map frame_of) (sym (take-add passed block fs)))
+-- bytes of which some are gathered, and then more
+pub gathered_then : (bytes more : List ℕ) (b c : Buffers) (old mid new : HostState) → Gathered bytes b old mid → Gathered (gathered_in b ++ more) c mid new → Gathered (bytes ++ more) c old new
+gathered_then bytes more b c old mid new before next = (
+  before.0 ++ next.0,
+  wrote_both before.0 next.0 old mid new before.1 next.1,
+  gathered_more bytes before.0 more b before.2 ∙ ap (λ (xs : List ℕ). before.0 ++ xs) next.2 ∙ sym (append_assoc before.0 next.0 (gathered_in c)),
+)
+
+-- all of them are written once what is gathered is
+pub gathered_whole : (bytes : List ℕ) (b : Buffers) (old mid new : HostState) → Gathered bytes b old mid → Wrote (gathered_in b) mid new → Wrote bytes old new
+gathered_whole bytes b old mid new before rest =
+    wrote_both before.0 (gathered_in b) old mid new before.1 rest ∙ ap (λ (xs : List ℕ). written xs old.created) (sym before.2)
+
+-- some of them, where some of what is gathered and of what follows is
+pub gathered_part : (bytes more : List ℕ) (b : Buffers) (old mid new : HostState) → Gathered bytes b old mid → WrotePart (gathered_in b ++ more) mid new → WrotePart (bytes ++ more) old new
+gathered_part bytes more b old mid new before part =
+    subst (λ (xs : List ℕ). WrotePart xs old new) (sym (gathered_more bytes before.0 more b before.2))
+    (part_then before.0 (gathered_in b ++ more) old mid new before.1 part)
+
+-- the whole is a part
+pub part_whole : (bytes : List ℕ) (old new : HostState) → Wrote bytes old new → WrotePart bytes old new
+part_whole bytes old new wrote = (length bytes, omega arith, wrote ∙ ap (λ (xs : List ℕ). written xs old.created) (sym (take_all (length bytes) bytes (omega arith))))
+
+-- what is gathered, where nothing is written
+pub still_gathered : (b : Buffers) (old : HostState) → Gathered (gathered_in b) b old old
+still_gathered b old = ([], sym (written-nothing old.created), refl)
+
+-- where all is written nothing is gathered
+pub all_flushed : (bytes : List ℕ) (b : Buffers) (old new : HostState) → b.gathered ≡ 0 → Wrote bytes old new → Gathered bytes b old new
+all_flushed bytes b old new none wrote =
+    (bytes, wrote, sym (append-nil bytes) ∙ ap (λ n. bytes ++ take n b.bytes.items) (sym none))
+
+-- more is gathered
+pub gathers : (bytes more : List ℕ) (b c : Buffers) (old new : HostState) → Gathered bytes b old new → gathered_in c ≡ gathered_in b ++ more → Gathered (bytes ++ more) c old new
+gathers bytes more b c old new before adds =
+    (before.0, before.1, gathered_more bytes before.0 more b before.2 ∙ ap (λ (xs : List ℕ). before.0 ++ xs) (sym adds))
 
 frames_split : (n : ℕ) (fs : List (List ℤ)) → flat_map frame_of (take n fs) ++ flat_map frame_of (drop n fs) ≡ flat_map frame_of fs
 frames_split n fs = sym (flat_map-append frame_of (take n fs) (drop n fs)) ∙ ap (flat_map frame_of) (take-append-drop n fs)
-
--- some of the frames of one block more
-pub more_part : (fs : List (List ℤ)) (passed block : ℕ) (old mid new : HostState) → Wrote (flat_map frame_of (take passed fs)) old mid
-    → WrotePart (flat_map frame_of (take block (drop passed fs))) mid new → WrotePart (flat_map frame_of fs) old new
-more_part fs passed block old mid new before part =
-    let rest : List (List ℤ) = drop passed fs in
-    subst (λ bytes. WrotePart bytes old new) (frames_split passed fs)
-    (part_then (flat_map frame_of (take passed fs)) (flat_map frame_of rest) old mid new before
-    (subst (λ bytes. WrotePart bytes mid new) (frames_split block rest)
-    (part_first (flat_map frame_of (take block rest)) (flat_map frame_of (drop block rest)) mid new part)))
 
 -- ---- rounds
 
@@ -146,19 +168,42 @@ under_next rounds c e past under = record {
 same_frames : (start mid : EngineState) → SamePiece start mid → frames_at mid ≡ frames_at start
 same_frames start mid same = λ i. frames (channels (same.code i) (same.rate i))
 
-pub round_wrote : (start mid : EngineState) (rounds : ℕ) (old now later : HostState) → SamePiece start mid → Wrote (bytes_after start rounds) old now
-    → Wrote (bytes_of_round mid rounds) now later → Wrote (bytes_after start (rounds + 1)) old later
-round_wrote start mid rounds old now later same before more =
-    let next : Wrote (bytes_of_round start rounds) now later =
-    subst (λ (bytes : List ℕ). Wrote bytes now later) (λ i. flat_map frame_of (take (same.block i) (drop (rounds * same.block i) (same_frames start mid same i)))) more in
-    subst (λ n. Wrote (flat_map frame_of (take n (frames_at start))) old later) (sym (next_multiple rounds start.heap.block))
-    (more_frames (frames_at start) (rounds * start.heap.block) start.heap.block old now later before next)
+-- the bytes of one round more
+round_next : (start mid : EngineState) (rounds : ℕ) → SamePiece start mid → bytes_after start rounds ++ bytes_of_round mid rounds ≡ bytes_after start (rounds + 1)
+round_next start mid rounds same =
+    let b : ℕ = start.heap.block in
+    let fs : List (List ℤ) = frames_at start in
+    ap (λ (bytes : List ℕ). bytes_after start rounds ++ bytes) (λ i. flat_map frame_of (take (same.block i) (drop (rounds * same.block i) (same_frames start mid same i))))
+    ∙ sym (flat_map-append frame_of (take (rounds * b) fs) (take b (drop (rounds * b) fs)))
+    ∙ ap (flat_map frame_of) (sym (take-add (rounds * b) b fs))
+    ∙ ap (λ n. flat_map frame_of (take n fs)) (sym (next_multiple rounds b))
 
-pub round_part : (start mid : EngineState) (rounds : ℕ) (old now later : HostState) → SamePiece start mid → Wrote (bytes_after start rounds) old now
-    → WrotePart (bytes_of_round mid rounds) now later → WrotePart (all_bytes start) old later
-round_part start mid rounds old now later same before part =
-    more_part (frames_at start) (rounds * start.heap.block) start.heap.block old now later before
-    (subst (λ (bytes : List ℕ). WrotePart bytes now later) (λ i. flat_map frame_of (take (same.block i) (drop (rounds * same.block i) (same_frames start mid same i)))) part)
+pub round_wrote : (start mid : EngineState) (rounds : ℕ) (b c : Buffers) (old now later : HostState) → SamePiece start mid → Gathered (bytes_after start rounds) b old now
+    → Gathered (gathered_in b ++ bytes_of_round mid rounds) c now later → Gathered (bytes_after start (rounds + 1)) c old later
+round_wrote start mid rounds b c old now later same before more =
+    subst (λ (bytes : List ℕ). Gathered bytes c old later) (round_next start mid rounds same)
+    (gathered_then (bytes_after start rounds) (bytes_of_round mid rounds) b c old now later before more)
+
+-- some of the bytes of so many rounds are some of all
+after_part : (start : EngineState) (rounds : ℕ) (old new : HostState) → WrotePart (bytes_after start rounds) old new → WrotePart (all_bytes start) old new
+after_part start rounds old new part =
+    subst (λ (bytes : List ℕ). WrotePart bytes old new) (frames_split (rounds * start.heap.block) (frames_at start))
+    (part_first (bytes_after start rounds) (flat_map frame_of (drop (rounds * start.heap.block) (frames_at start))) old new part)
+
+pub round_part : (start mid : EngineState) (rounds : ℕ) (b : Buffers) (old now later : HostState) → SamePiece start mid → Gathered (bytes_after start rounds) b old now
+    → WrotePart (gathered_in b ++ bytes_of_round mid rounds) now later → WrotePart (all_bytes start) old later
+round_part start mid rounds b old now later same before part =
+    after_part start (rounds + 1) old later
+    (subst (λ (bytes : List ℕ). WrotePart bytes old later) (round_next start mid rounds same)
+    (gathered_part (bytes_after start rounds) (bytes_of_round mid rounds) b old now later before part))
+
+-- the same where the last write failed
+pub last_part : (start : EngineState) (rounds : ℕ) (b : Buffers) (old now later : HostState) → Gathered (bytes_after start rounds) b old now
+    → WrotePart (gathered_in b) now later → WrotePart (all_bytes start) old later
+last_part start rounds b old now later before part =
+    after_part start rounds old later
+    (subst (λ (bytes : List ℕ). WrotePart bytes old later) (append-nil (bytes_after start rounds))
+    (gathered_part (bytes_after start rounds) [] b old now later before (part_first (gathered_in b) [] now later part)))
 
 -- a fault of a round is one of the engine that the rounds began with
 fault_from : (start mid e : EngineState) (rounds : ℕ) (fault : RoundFault) → SamePiece start mid → IsPullFault mid e rounds fault → IsPullFault start e rounds fault
@@ -176,13 +221,20 @@ fault_from start mid e rounds (PoolFull pulls) same (count, spent) = (
 fault_from start mid e rounds OutOfMemory same short =
     record { same = same_then start mid e same short.same; at = short.at; pulls = short.pulls; short = short.short }
 
-pub ends_rounds : (start mid e : EngineState) (rounds : ℕ) (old now later : HostState) (fault : RoundFault) → SamePiece start mid → NoneFell old now → SameCounts old now
-    → Wrote (bytes_after start rounds) old now → IsRoundFault mid e rounds now later fault → EndsRounds start e old later fault
-ends_rounds start mid e rounds old now later Write same counts quiet before rose = rose_from old.writes now.writes later.writes counts.writes rose
-ends_rounds start mid e rounds old now later (PoolFull n) same counts quiet before (ended, kept, still) =
-    (rounds, fault_from start mid e rounds (PoolFull n) same ended, kept ∙ before, quiet_then old now later quiet still)
-ends_rounds start mid e rounds old now later OutOfMemory same counts quiet before (ended, kept, still) =
-    (rounds, fault_from start mid e rounds OutOfMemory same ended, kept ∙ before, quiet_then old now later quiet still)
+pub ends_rounds : (start mid e : EngineState) (rounds : ℕ) (b : Buffers) (old now later : HostState) (fault : RoundFault) → SamePiece start mid → NoneFell old now → SameCounts old now
+    → Gathered (bytes_after start rounds) b old now → IsRoundFault mid e rounds b now later fault → EndsRounds start e old later fault
+ends_rounds start mid e rounds b old now later Write same counts quiet before rose = rose_from old.writes now.writes later.writes counts.writes rose
+ends_rounds start mid e rounds b old now later (PoolFull n) same counts quiet before (ended, rest, still) =
+    (rounds, fault_from start mid e rounds (PoolFull n) same ended, gathered_whole (bytes_after start rounds) b old now later before rest, quiet_then old now later quiet still)
+ends_rounds start mid e rounds b old now later OutOfMemory same counts quiet before (ended, rest, still) =
+    (rounds, fault_from start mid e rounds OutOfMemory same ended, gathered_whole (bytes_after start rounds) b old now later before rest, quiet_then old now later quiet still)
+
+-- a pull's fault, once what was gathered is written
+pub round_ends : (start e : EngineState) (rounds : ℕ) (b : Buffers) (old new : HostState) (fault : RoundFault) → Wrote (gathered_in b) old new → SameCounts old new
+    → IsPullFault start e rounds fault → IsRoundFault start e rounds b old new fault
+round_ends start e rounds b old new Write wrote quiet never = absurd never
+round_ends start e rounds b old new (PoolFull n) wrote quiet ended = (ended, wrote, quiet)
+round_ends start e rounds b old new OutOfMemory wrote quiet ended = (ended, wrote, quiet)
 
 -- ---- the last round
 
@@ -244,7 +296,7 @@ pulled_out start e rounds same under over = record {
 -- ---- the loop
 
 -- between two rounds
-pub record RoundsSoFar (start e : EngineState) (rounds : ℕ) (old now : HostState) (file : ℕ) : Type 0 where
+pub record RoundsSoFar (start e : EngineState) (rounds : ℕ) (b : Buffers) (old now : HostState) (file : ℕ) : Type 0 where
   pub same : SamePiece start e
   pub under : IsUnderway rounds 0 e
   pub counts : NoneFell old now
@@ -252,7 +304,7 @@ pub record RoundsSoFar (start e : EngineState) (rounds : ℕ) (old now : HostSta
   pub output : now.output ≡ Some file
   pub files : now.files ≡ old.files
   pub printed : now.printed ≡ old.printed
-  pub wrote : Wrote (bytes_after start rounds) old now
+  pub wrote : Gathered (bytes_after start rounds) b old now
 
 counts_none : (old : HostState) → NoneFell old old
 counts_none old = record { opens = λ name. omega arith; reads = λ name. omega arith; creates = λ name. omega arith; writes = omega arith }
@@ -268,11 +320,17 @@ counts_then old mid new first second = record {
 same_piece : (e : EngineState) → SamePiece e e
 same_piece e = record { code = refl; rate = refl; channels = refl; pool = refl; block = refl }
 
-no_blocks : (b : ℕ) → 0 ≡ 0 * b
-no_blocks b = omega arith
+-- before the first round nothing is written or gathered
+nothing_yet : (e : EngineState) (b : Buffers) (old : HostState) → b.gathered ≡ 0 → Gathered (bytes_after e 0) b old old
+nothing_yet e b old none = (
+  [],
+  sym (written-nothing old.created),
+  (let no_blocks : 0 * e.heap.block ≡ 0 = omega arith in ap (λ n. flat_map frame_of (take n (frames_at e))) no_blocks)
+      ∙ sym (ap (λ n. take n b.bytes.items) none),
+)
 
-pub rounds_begin : (e : EngineState) (old : HostState) (file : ℕ) → IsUnderway 0 0 e → old.output ≡ Some file → RoundsSoFar e e 0 old old file
-rounds_begin e old file under output = record {
+pub rounds_begin : (e : EngineState) (b : Buffers) (old : HostState) (file : ℕ) → b.gathered ≡ 0 → IsUnderway 0 0 e → old.output ≡ Some file → RoundsSoFar e e 0 b old old file
+rounds_begin e b old file none under output = record {
   same = same_piece e;
   under = under;
   counts = counts_none old;
@@ -280,13 +338,13 @@ rounds_begin e old file under output = record {
   output = output;
   files = refl;
   printed = refl;
-  wrote = sym (written-nothing old.created) ∙ ap (λ n. written (flat_map frame_of (take n (frames_at e))) old.created) (no_blocks e.heap.block);
+  wrote = nothing_yet e b old none;
 }
 
-pub rounds_on : (start mid e : EngineState) (rounds : ℕ) (old now later : HostState) (file : ℕ) → RoundsSoFar start mid rounds old now file → SamePiece mid e → IsUnderway (rounds + 1) 0 e
-    → Wrote (bytes_of_round mid rounds) now later → NoneFell now later → SameCounts now later → later.output ≡ now.output
-    → later.files ≡ now.files → later.printed ≡ now.printed → RoundsSoFar start e (rounds + 1) old later file
-rounds_on start mid e rounds old now later file so same under wrote counts quiet output files printed = record {
+pub rounds_on : (start mid e : EngineState) (rounds : ℕ) (b c : Buffers) (old now later : HostState) (file : ℕ) → RoundsSoFar start mid rounds b old now file → SamePiece mid e → IsUnderway (rounds + 1) 0 e
+    → Gathered (gathered_in b ++ bytes_of_round mid rounds) c now later → NoneFell now later → SameCounts now later → later.output ≡ now.output
+    → later.files ≡ now.files → later.printed ≡ now.printed → RoundsSoFar start e (rounds + 1) c old later file
+rounds_on start mid e rounds b c old now later file so same under wrote counts quiet output files printed = record {
   same = same_then start mid e so.same same;
   under = under;
   counts = counts_then old now later so.counts counts;
@@ -294,7 +352,7 @@ rounds_on start mid e rounds old now later file so same under wrote counts quiet
   output = output ∙ so.output;
   files = files ∙ so.files;
   printed = printed ∙ so.printed;
-  wrote = round_wrote start mid rounds old now later so.same so.wrote wrote;
+  wrote = round_wrote start mid rounds b c old now later so.same so.wrote wrote;
 }
 
 -- all frames are written where the longest channel has no more samples than so many rounds give
@@ -322,3 +380,8 @@ err_on (Err e) P Q on p = on p
 pub if_err_on : {A E : Type 0} (r : Result A E) (P Q : E → Type 0) → ((e : E) → P e → Q e) → IfErr r P → IfErr r Q
 if_err_on (Ok x) P Q on p = tt
 if_err_on (Err e) P Q on p = on e p
+
+-- what holds of a fault that is passed on as it is
+pub err_passed : {A E : Type 0} (r : Result A E) (e : E) (P : E → Type 0) → IsErrAnd r (λ x. x ≡ e) → P e → IfErr r P
+err_passed (Ok x) e P is p = tt
+err_passed (Err x) e P is p = subst P (sym is) p

@@ -1,5 +1,6 @@
--- Rounds over an engine: each pulls the next block of each channel that has not ended, channel 0 first, and writes their frames.
-use Rattle.std.specs.Prelude.{◌≡◌, ℕ, ◌*◌, ◌<◌, ◌≤◌, List, take, drop, map, length, sum, Some, None, ℤ}
+-- Rounds over an engine: each pulls the next block of each channel that has not ended, channel 0 first. The bytes of their frames are
+-- gathered, and what is gathered is written where no room is left, at the end, and before a pull's fault is told.
+use Rattle.std.specs.Prelude.{◌≡◌, ℕ, ◌*◌, ◌<◌, ◌≤◌, List, ◌++◌, take, drop, map, length, sum, Some, None, ℤ}
 use Rattle.std.specs.List.{flat_map}
 use Rattle.ny_io.specs.Faults.{Rose}
 use Rattle.ny_io.specs.Host.{HostState, SameCounts, written}
@@ -10,6 +11,8 @@ use Rattle.ny_pull.specs.declared.fault.PullFault.TheVariants as faults
 use Rattle.ny_wav.specs.WavFile.{frame_of}
 use Rattle.ny_top.specs.Channel.{first_frames}
 use Rattle.ny_top.specs.Playing.{pulls_of, pulled_after, IsInRound, IsStopped, IsShort}
+use Rattle.ny_top.specs.Frames.{gathered_in}
+use Rattle.ny_top.specs.declared.frames.Buffers.{Buffers}
 use Rattle.ny_top.specs.declared.rounds.RoundFault.{RoundFault}
 use Rattle.ny_top.specs.declared.rounds.RoundFault.TheVariants.{Write, PoolFull, OutOfMemory}
 
@@ -27,6 +30,10 @@ Wrote bytes old new = new.created ≡ written bytes old.created
 -- a first part of these bytes was written
 abbrev pub WrotePart : List ℕ → HostState → HostState → Type 0
 WrotePart bytes old new = (done : ℕ) × (done ≤ length bytes) × Wrote (take done bytes) old new
+
+-- of these bytes a first part was written to the output, and all that follows it is gathered
+abbrev pub Gathered : List ℕ → Buffers → HostState → HostState → Type 0
+Gathered bytes b old new = (first : List ℕ) × Wrote first old new × (bytes ≡ first ++ gathered_in b)
 
 -- the frames that an engine's channels have together
 abbrev pub frames_at : EngineState → List (List ℤ)
@@ -72,12 +79,13 @@ IsPullFault start e rounds Write = ⊥
 IsPullFault start e rounds (PoolFull pulls) = (pulls ≡ sum e.pulled) × IsSpentAfter start e rounds
 IsPullFault start e rounds OutOfMemory = IsShortOf start e rounds
 
--- why the round after so many ended early. At a full pool, and where memory was missing, nothing of it was written, and no count changed
-abbrev pub IsRoundFault : EngineState → EngineState → ℕ → HostState → HostState → RoundFault → Type 0
-IsRoundFault start e rounds old new Write = Rose old.writes new.writes
-IsRoundFault start e rounds old new (PoolFull pulls) =
-    IsPullFault start e rounds (PoolFull pulls) × (new.created ≡ old.created) × SameCounts old new
-IsRoundFault start e rounds old new OutOfMemory = IsPullFault start e rounds OutOfMemory × (new.created ≡ old.created) × SameCounts old new
+-- why the round after so many ended early. At a full pool, and where memory was missing, what was gathered before was written, nothing of
+-- this round, and no count changed
+abbrev pub IsRoundFault : EngineState → EngineState → ℕ → Buffers → HostState → HostState → RoundFault → Type 0
+IsRoundFault start e rounds b old new Write = Rose old.writes new.writes
+IsRoundFault start e rounds b old new (PoolFull pulls) =
+    IsPullFault start e rounds (PoolFull pulls) × Wrote (gathered_in b) old new × SameCounts old new
+IsRoundFault start e rounds b old new OutOfMemory = IsPullFault start e rounds OutOfMemory × Wrote (gathered_in b) old new × SameCounts old new
 
 -- why the rounds ended early. At a full pool, and where memory was missing, the frames of all rounds before were written, and no count
 -- changed

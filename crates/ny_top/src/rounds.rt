@@ -1,12 +1,12 @@
-ghost use Rattle.std.specs.Prelude.{◌≡◌, ◌*◌, ◌+◌, ◌<◌, ◌≤◌, ℕ, Some, length, map, pos, IfErr, OnOk, OnErr};
+ghost use Rattle.std.specs.Prelude.{◌≡◌, ◌*◌, ◌+◌, ◌<◌, ◌≤◌, ◌++◌, ℕ, Some, length, map, pos, IfErr, OnOk, OnErr};
 ghost use Rattle.std.specs.List.{range_with_len};
 ghost use Rattle.ny_io.specs.Host.{NoneFell, SameCounts};
 ghost use Rattle.ny_check.specs.Channels.{channels, longest};
-ghost use Rattle.ny_pull.specs.Engine.{SamePiece};
-ghost use Rattle.ny_top.specs.Frames.{HasRoom, IsBlock, AreBlocks};
-ghost use Rattle.ny_top.specs.Rounds.{IsUnderway, IsPulledOut, IsPullFault, IsRoundFault, EndsRounds, Wrote, WrotePart, all_bytes, bytes_of_round};
+ghost use Rattle.ny_pull.specs.Engine.{EngineState, SamePiece};
+ghost use Rattle.ny_top.specs.Frames.{HasRoom, IsBlock, AreBlocks, gathered_in};
+ghost use Rattle.ny_top.specs.Rounds.{IsUnderway, IsPulledOut, IsPullFault, IsRoundFault, EndsRounds, Wrote, WrotePart, Gathered, all_bytes, bytes_of_round};
 
-use crate::frames::{Buffers, write_frames};
+use crate::frames::{Buffers, flush, write_frames};
 use ny_io::Host;
 use ny_num::Sample;
 use ny_pull::{Engine, PullFault};
@@ -79,8 +79,29 @@ fn pull_channels(
     Ok(())
 }
 
-/// One round: each channel that has not ended is pulled once, and the frames are written by one call, as many
-/// as the longest of these blocks has.
+/// The fault that a round ends with, which a pull gave: what is gathered is written first, and where that fails it is the write's.
+fn end_round<H: Host>(
+    host: &mut H,
+    file: u32,
+    buffers: &mut Buffers,
+    fault: RoundFault,
+) -> RoundFault
+    requires open { (H.state host.old).output ≡ Some file }
+    requires room { buffers.old.gathered ≤ length buffers.old.bytes.items }
+    ensures counts { NoneFell (H.state host.old) (H.state host.new) }
+    ensures fault { (start e : EngineState) (rounds : ℕ) → IsPullFault start e rounds fault → IsRoundFault start e rounds buffers.old (H.state host.old) (H.state host.new) result }
+    ensures part { WrotePart (gathered_in buffers.old) (H.state host.old) (H.state host.new) }
+    ensures files { (H.state host.new).files ≡ (H.state host.old).files }
+    ensures printed { (H.state host.new).printed ≡ (H.state host.old).printed }
+{
+    match flush(host, file, buffers) {
+        Ok(()) => fault,
+        Err(_) => RoundFault::Write,
+    }
+}
+
+/// One round: each channel that has not ended is pulled once, and as many frames are gathered as the longest
+/// of these blocks has. At a fault of a pull what was gathered before is written.
 fn round<H: Host>(
     alloc: Global,
     host: &mut H,
@@ -97,25 +118,28 @@ fn round<H: Host>(
     ensures quiet { OnOk result (SameCounts (H.state host.old) (H.state host.new)) }
     ensures same { SamePiece engine.old engine.new }
     ensures underway { OnOk result (IsUnderway (round + 1) 0 engine.new) }
-    ensures whole { OnOk result (Wrote (bytes_of_round engine.old round) (H.state host.old) (H.state host.new)) }
-    ensures fault { IfErr result (λ fault. IsRoundFault engine.old engine.new round (H.state host.old) (H.state host.new) fault) }
-    ensures part { OnErr result (WrotePart (bytes_of_round engine.old round) (H.state host.old) (H.state host.new)) }
-    ensures output { (H.state host.new).output ≡ (H.state host.old).output }
+    ensures whole { OnOk result (Gathered (gathered_in buffers.old ++ bytes_of_round engine.old round) buffers.new (H.state host.old) (H.state host.new)) }
+    ensures fault { IfErr result (λ fault. IsRoundFault engine.old engine.new round buffers.old (H.state host.old) (H.state host.new) fault) }
+    ensures part { OnErr result (WrotePart (gathered_in buffers.old ++ bytes_of_round engine.old round) (H.state host.old) (H.state host.new)) }
+    ensures output { OnOk result ((H.state host.new).output ≡ (H.state host.old).output) }
     ensures files { (H.state host.new).files ≡ (H.state host.old).files }
     ensures printed { (H.state host.new).printed ≡ (H.state host.old).printed }
     ensures room { OnOk result (HasRoom (length engine.old.channels) engine.old.heap.block buffers.new) }
 {
     let block = buffers.block;
     let count = (engine.frames() as usize - round as usize * block).min(block);
-    pull_channels(alloc, engine, block, buffers.samples.as_mut_slice())?;
+    match pull_channels(alloc, engine, block, buffers.samples.as_mut_slice()) {
+        Ok(()) => {}
+        Err(fault) => return Err(end_round(host, file, buffers, fault)),
+    }
     match write_frames(host, file, engine.channels() as usize, count, buffers) {
         Ok(()) => Ok(()),
         Err(_) => Err(RoundFault::Write),
     }
 }
 
-/// Pulls an engine's channels to their ends, in rounds, and writes the frames of each round as they come. Memory
-/// is taken for the parts that fall due, and for nothing else.
+/// Pulls an engine's channels to their ends, in rounds, and writes their frames, of as many rounds by one call as the
+/// buffer of bytes has room for. Memory is taken for the parts that fall due, and for nothing else.
 pub(crate) fn rounds<H: Host>(
     alloc: Global,
     host: &mut H,
@@ -136,9 +160,13 @@ pub(crate) fn rounds<H: Host>(
     ensures files { (H.state host.new).files ≡ (H.state host.old).files }
     ensures printed { (H.state host.new).printed ≡ (H.state host.old).printed }
 {
+    buffers.gathered = 0;
     let count = engine.frames().div_ceil(buffers.block as u32);
     for n in 0..count {
         round(alloc, host, file, engine, buffers, n)?;
     }
-    Ok(())
+    match flush(host, file, buffers) {
+        Ok(()) => Ok(()),
+        Err(_) => Err(RoundFault::Write),
+    }
 }

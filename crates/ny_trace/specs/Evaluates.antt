@@ -39,8 +39,10 @@ use Rattle.ny_heap.specs.declared.make.Make.{Make}
 use Rattle.ny_heap.specs.declared.make.Make.TheVariants.{Leaf as MakesLeaf, Pair}
 use Rattle.ny_heap.specs.declared.sound.Sound.{Sound as Handle}
 use Rattle.ny_heap.specs.Heap.{Made, Mix, HeapState}
+use Rattle.ny_heap.specs.Kinds.{kind_of_leaf, kind_of_make}
 use Rattle.ny_heap.specs.Steps.{last_stop_of, both_timing, waiting_of, sounds_of}
 use Rattle.ny_hands.specs.Calls.{Shares, MakesUnit, Places, ReleasesAll, Brings, BringsEach, IsSilent}
+use Rattle.ny_hands.specs.Kinds.{kind_of_generator, kind_of_effect, IsOfKind}
 use Rattle.ny_hands.specs.Made.{made_with}
 use Rattle.ny_hands.specs.Frames.{Names, sounds_among}
 use Rattle.ny_hands.specs.declared.branch.Branch.{Branch}
@@ -253,19 +255,21 @@ pub record SeqTurn (D : Trace) (code : Code) (e : ℕ) (ps : List Part) (env : E
 
 -- ---- leaves and effects
 
--- a unit of no sound, whose samples are those that the generator gives for these numbers
+-- a unit of no sound, of the generator's kind, whose samples are those that the generator gives for these numbers
 pub record LeafTurn (w : Generator) (env : Env) (numbers : List ℤ) (old new : HeapState Branch) (s : Handle) : Type 0 where
   pub played : Leaf
   pub is : leaf (leaf_time w env numbers) (leaf_value played) ≡ leaf_sound w env numbers
+  pub kind : IsOfKind (kind_of_generator w) (kind_of_leaf played)
   pub made : MakesUnit old new (Made (MakesLeaf played)) (leaf_time w env numbers) [] [] [] s
 
--- a unit over the sound of the part, at its own rate, which makes of any sound what the effect does
+-- a unit over the sound of the part, at its own rate, of the effect's kind, which makes of any sound what the effect does
 pub record EffectTurn (D : Trace) (w : Effect) (e : ExprId) (numbers : List ℤ) (env : Env) (names : Names) (old new : HeapState Branch) (s : Handle) : Type 0 where
   pub part : Handle
   pub mid : HeapState Branch
   pub evaluates : D e.0 env names old mid part
   pub unit : Make
   pub is : (m : sounds.Sound) → m.rate ≡ part.timing.rate → made_with unit m ≡ effect_sound w numbers m
+  pub kind : kind_of_make unit ≡ kind_of_effect w
   pub made : MakesUnit mid new (Made unit) part.timing (part ∷ []) [] (part ∷ []) s
 
 -- at another loudness than 1 a product, at the sound's own rate

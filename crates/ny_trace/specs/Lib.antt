@@ -4,3 +4,4 @@ pub mod Heights
 pub mod Settled
 pub mod Reveals
 pub mod Plays
+pub mod Channels

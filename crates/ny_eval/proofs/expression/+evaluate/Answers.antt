@@ -18,7 +18,7 @@ use Rattle.ny_eval.specs.Parts.{count_in, part_at}
 use Rattle.ny_eval.proofs.AnswerLemmas.{on_err, err_one}
 use Rattle.ny_eval.proofs.EvalLemmas.{sound_hand, value_hand, values_hand, first_hand, held_same, held_after, sound_under, value_under, number_is, no_number, operation_turn, pair_below, sign_below, call_below, block_below, effect_below, cue_below, mix_below, mix_is, repeat_below, choice_below, change_below, pair_arm, sign_arm, name_arm, call_arm, block_arm, leaf_arm, effect_arm, cue_arm, mix_arm, repeat_arm, choice_arm, change_arm, silent_arm}
 use Rattle.ny_eval.proofs.BodyLemmas.{below_at, empty_frame, empty_held, empty_count, bound_none, bound_step, bound_grown, passed_none, passed_step, passed_grown, keep_refused, grown_still, held_grown, body_hand, leave_within, leave_hands, left_same, left_refused, block_turn, call_turn, if_ok}
-use Rattle.ny_eval.proofs.ShapeLemmas.{effect_single, effect_made}
+use Rattle.ny_eval.proofs.ShapeLemmas.{effect_single, effect_made, effect_kind}
 use Rattle.ny_eval.proofs.PartLemmas.{parts_all, expr_below, part_turn, number_in_hand, number_given_up, number_grown, counted_turn, parts_none, parts_refused, parts_more, below_table}
 use Rattle.ny_eval.proofs.TurnLemmas.{part_hand, next_turn, follows_hand, next_none, next_at, next_refused, last_behind, late_enough, due_more, due_first, gains_in, gained_hand, starts_with, held_timed, seq_turn, some_parts}
 use Rattle.ny_heap.specs.declared.sound.Sound.{Sound}
@@ -247,6 +247,7 @@ affected-returns-clause-turn t c n less = record {
   evaluates = lifted c.args.p.now (c.args.part.0 + 1) n c.args.part.0 c.args.env (names_in c.args.frame.now) c.args.heap.now c.evaluate.new.heap c.in_ok-sound.sound (omega (arith, less)) (sound_under c.args.p.now (c.args.part.0 + 1) c.args.part.0 c.args.env c.args.frame.now c.numbers.new.frame c.args.heap.now c.evaluate.new.heap c.in_ok-sound.sound c.numbers.ensures.same c.in_ok-sound.ensures.evaluates);
   unit = c.make_of-make.result;
   is = effect_made c.args.effect c.as_slice.result.now _ c.in_ok-sound.sound.timing.rate c.make_of-make.result c.make_of-make.ensures (c.as_slice.ensures.value ∙ c.in_ok-numbers.ensures.values);
+  kind = effect_kind c.args.effect c.as_slice.result.now c.in_ok-sound.sound.timing.rate c.make_of-make.result c.make_of-make.ensures;
   made = c.in_ok-single.ensures.makes;
 }
 

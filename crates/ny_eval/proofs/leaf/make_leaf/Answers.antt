@@ -16,4 +16,4 @@ returns-in_err-play-clause-refused c = on_err _ _ (all_given_up c.args.heap.now 
 
 pub returns-clause-turn : goal.returns-clause-turn
 returns-clause-turn c =
-    leaf_turn c.args.heap.now c.play.new.heap c.args.generator c.args.env.now _ _ _ c.leaf_time-timing.result c.in_ok-unit.unit c.in_ok-play.field-0 (c.as_slice.ensures.value ∙ c.in_ok-numbers.ensures.values) (c.as_slice-2.ensures.value ∙ c.in_ok-numbers.ensures.values) c.leaf_time-timing.ensures.value c.in_ok-unit.ensures.sound c.in_ok-play.ensures.makes
+    leaf_turn c.args.heap.now c.play.new.heap c.args.generator c.args.env.now _ _ _ c.leaf_time-timing.result c.in_ok-unit.unit c.in_ok-play.field-0 (c.as_slice.ensures.value ∙ c.in_ok-numbers.ensures.values) (c.as_slice-2.ensures.value ∙ c.in_ok-numbers.ensures.values) c.leaf_time-timing.ensures.value c.in_ok-unit.ensures.sound c.in_ok-unit.ensures.kind c.in_ok-play.ensures.makes

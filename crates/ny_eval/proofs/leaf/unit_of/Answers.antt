@@ -1,9 +1,10 @@
-use Rattle.std.proofs.Common.{ap, ◌∙◌}
+use Rattle.std.proofs.Common.{refl, ap, ◌∙◌}
 use Rattle.ny_num.specs.Leaves.{increment, key_hz}
 use Rattle.ny_check.specs.declared.node.Generator.TheVariants as generator
 use Rattle.ny_check.specs.Families.{leaf_time, number_at}
+use Rattle.ny_heap.specs.Kinds as kind
 use Rattle.ny_eval.proofs.EnvelopeLemmas.{envelope_heard, envelope_is}
-use Rattle.ny_eval.proofs.LeafLemmas.{constant_is, osc_is, hzosc_is, noise_is, rest_is, ramp_is, lfo_is, by_row}
+use Rattle.ny_eval.proofs.LeafLemmas.{constant_is, osc_is, hzosc_is, noise_is, rest_is, ramp_is, lfo_is, by_row, kind_by_row}
 use Rattle.ny_eval.proofs.leaf.unit_of.Goals as goal
 
 pub returns-in-Const-clause-sound : goal.returns-in-Const-clause-sound
@@ -59,3 +60,29 @@ returns-in_ok-knots-in-Pwl-clause-heard c =
     let env = c.args.env.now in
     let ns = c.args.numbers.now in
     envelope_heard env ns c.in_ok-knots-in-Pwl.knots c.args.timing.now (c.requires ∙ ap (λ g. leaf_time g env ns) c.in-Pwl.is) c.in_ok-knots-in-Pwl.ensures
+
+-- ---- kinds
+
+pub returns-in-Const-clause-kind : goal.returns-in-Const-clause-kind
+returns-in-Const-clause-kind c = kind_by_row c.args.generator generator.Const kind.Const c.in-Const.is refl
+
+pub returns-in-Osc-clause-kind : goal.returns-in-Osc-clause-kind
+returns-in-Osc-clause-kind c = kind_by_row c.args.generator generator.Osc kind.Osc c.in-Osc.is refl
+
+pub returns-in-HzOsc-clause-kind : goal.returns-in-HzOsc-clause-kind
+returns-in-HzOsc-clause-kind c = kind_by_row c.args.generator generator.HzOsc kind.HzOsc c.in-HzOsc.is refl
+
+pub returns-in-Lfo-clause-kind : goal.returns-in-Lfo-clause-kind
+returns-in-Lfo-clause-kind c = kind_by_row c.args.generator generator.Lfo kind.Lfo c.in-Lfo.is refl
+
+pub returns-in-Noise-clause-kind : goal.returns-in-Noise-clause-kind
+returns-in-Noise-clause-kind c = kind_by_row c.args.generator generator.Noise kind.Noise c.in-Noise.is refl
+
+pub returns-in-Rest-clause-kind : goal.returns-in-Rest-clause-kind
+returns-in-Rest-clause-kind c = kind_by_row c.args.generator generator.Rest kind.Const c.in-Rest.is tt
+
+pub returns-in-Ramp-clause-kind : goal.returns-in-Ramp-clause-kind
+returns-in-Ramp-clause-kind c = kind_by_row c.args.generator generator.Ramp kind.Ramp c.in-Ramp.is refl
+
+pub returns-in_ok-knots-in-Pwl-clause-kind : goal.returns-in_ok-knots-in-Pwl-clause-kind
+returns-in_ok-knots-in-Pwl-clause-kind c = kind_by_row c.args.generator generator.Pwl kind.Pwl c.in-Pwl.is refl

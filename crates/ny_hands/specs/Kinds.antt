@@ -1,5 +1,5 @@
 -- The kinds of the units that words make (`ny_heap/specs/Kinds.antt` names the kinds).
-use Rattle.std.specs.Prelude.{Option, None, Some}
+use Rattle.std.specs.Prelude.{◌≡◌, Option, None, Some}
 use Rattle.ny_check.specs.declared.node.Generator.{Generator}
 use Rattle.ny_check.specs.declared.node.Generator.TheVariants as generator
 use Rattle.ny_check.specs.declared.node.Effect.{Effect}
@@ -23,3 +23,8 @@ kind_of_effect effect.Abs = Abs
 kind_of_effect effect.OnePole = Filter
 kind_of_effect effect.Biquad = Filter
 kind_of_effect effect.Comb = Filter
+
+-- this kind, where there is to be a unit
+abbrev pub IsOfKind : Option UnitKind → UnitKind → Type 0
+IsOfKind None k = Unit {0}
+IsOfKind (Some j) k = k ≡ j
