@@ -1,5 +1,5 @@
 -- How the kept blocks of each kind are counted.
-use Rattle.std.proofs.Common.{◌≡◌, ◌≢◌, inl, inr, ℕ, zero, suc, ◌+◌, ◌<◌, ◌≤◌, Bool, true, false, cond, nat_eq, List, [], ◌∷◌, length, get_or, map, set, Option, None, Some, IsSome, is_some, sum_by, refl, sym, ap, ◌∙◌, arith}
+use Rattle.std.proofs.Common.{◌≡◌, ◌≢◌, inl, inr, ℕ, zero, suc, ◌+◌, ◌^◌, ◌<◌, ◌≤◌, Bool, true, false, cond, nat_eq, List, [], ◌∷◌, length, get_or, map, set, Option, None, Some, IsSome, is_some, sum_by, refl, sym, ap, ◌∙◌, arith}
 use Rattle.std.proofs.lemmas.Bool.{eq-eqb, ne_eqb}
 use Rattle.std.proofs.lemmas.List.FromFn.{length-map-range_with_len}
 use Rattle.std.proofs.lemmas.List.Sums.{sum_by-cons}
@@ -132,6 +132,18 @@ module _ (t : Table) (table : IsTable t []) (v : ℕ) (x : UnitData) (there : un
 
   pub kept_told : (n : ℕ) → ((l : ListState) → list_at t.store x.list ≡ Some l → n ≡ lists.kept_of l) → n ≡ kept_in_list t.store v
   kept_told n told = told its_list.0 its_list.1 ∙ sym (ap (λ (o : Option ListState). option_map_or {U = ℕ} lists.kept_of o 0) its_list.2)
+
+-- a count with those of one list more, as the code has them
+module _ (t : Table) (table : IsTable t []) (v : ℕ) (x : UnitData) (there : unit_at t v ≡ Some x) (p : ℕ) (is : p ≡ place_of_kind (unit_kind (kind_of x.work))) (counts : List ℕ) (are : counts ≡ kept_below t v)
+    (n : ℕ) (told : (l : ListState) → list_at t.store x.list ≡ Some l → n ≡ lists.kept_of l) where
+  count_here : get_or counts p 0 + n ≡ get_or (kept_below t v) p 0 + kept_in_list t.store v
+  count_here = omega (arith, ap (λ ns. get_or ns p 0) are, kept_told t table v x there n told)
+
+  pub count_fits : get_or counts p 0 + n < 2 ^ 32
+  count_fits = omega (arith, count_here, count_few t v x there p is table, table.store.few)
+
+  pub counts_now : set counts p (get_or counts p 0 + n) ≡ kept_below t (v + 1)
+  counts_now = ap (λ ns. set ns p (get_or counts p 0 + n)) are ∙ counted t v x there p is (get_or counts p 0 + n) count_here
 
 -- ---- what is seen
 
