@@ -1,5 +1,5 @@
 -- How the kept blocks of each kind are counted.
-use Rattle.std.proofs.Common.{◌≡◌, ◌≢◌, inl, inr, ℕ, zero, suc, ◌+◌, ◌^◌, ◌<◌, ◌≤◌, Bool, true, false, cond, nat_eq, List, [], ◌∷◌, length, get_or, map, set, Option, None, Some, IsSome, is_some, sum_by, refl, sym, ap, ◌∙◌, arith}
+use Rattle.std.proofs.Common.{◌≡◌, ℕ, zero, suc, ◌+◌, ◌^◌, ◌<◌, ◌≤◌, Bool, true, false, cond, nat_eq, List, [], ◌∷◌, length, get_or, map, set, Option, None, Some, IsSome, is_some, sum_by, refl, sym, ap, ◌∙◌, arith}
 use Rattle.std.proofs.lemmas.Bool.{eq-eqb, ne_eqb}
 use Rattle.std.proofs.lemmas.List.FromFn.{length-map-range_with_len}
 use Rattle.std.proofs.lemmas.List.Sums.{sum_by-cons}
@@ -10,7 +10,7 @@ use Rattle.ny_list.specs.Store.{ListState, list_at}
 use Rattle.ny_list.proofs.IndexLemmas.{tab_get, tab_same, tab_set}
 use Rattle.ny_heap.specs.declared.table.Unit.{Unit as UnitData}
 use Rattle.ny_heap.specs.declared.table.Table.{Table}
-use Rattle.ny_heap.specs.Heap.{Node, HeapState, node_at, kept_of}
+use Rattle.ny_heap.specs.Heap.{Node, node_at, kept_of}
 use Rattle.ny_heap.specs.Kinds.{UnitKind, Const, Ramp, Osc, HzOsc, Lfo, Noise, Pwl, Data, Abs, Add, Sub, Mul, Max, Min, Resample, Filter, Mix, Channel, place_of_kind, unit_kind, kept_of_kinds, live_of_kind, live_by_kind}
 use Rattle.ny_heap.specs.Work.{kind_of}
 use Rattle.ny_heap.specs.Table.{unit_at, IsTable}
