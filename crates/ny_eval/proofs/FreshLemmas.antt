@@ -5,7 +5,7 @@ use Rattle.std.proofs.lemmas.Bool.{cases_eq}
 use Rattle.std.specs.Option.{option_map, option_map_or}
 use Rattle.ny_num.specs.declared.timing.Timing.{Timing}
 use Rattle.ny_num.specs.declared.rate.Rate.{Rate}
-use Rattle.ny_heap.specs.Heap.{Kind, Channel, Reader, Waiting, Node, HeapState, node_at, list_of, place_of}
+use Rattle.ny_heap.specs.Heap.{Kind, Reader, Node, HeapState, node_at, list_of, place_of}
 use Rattle.ny_heap.specs.Reach.{Uses, Read, Hold, HeapLaws}
 use Rattle.ny_heap.specs.Steps.{new_node, reader_of, without_sounds}
 use Rattle.ny_heap.specs.declared.sound.Sound.{Sound}

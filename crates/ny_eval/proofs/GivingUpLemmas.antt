@@ -1,6 +1,6 @@
 -- A channel that has ended, or has a block left; and its sound that is given up.
-use Rattle.std.proofs.Common.{◌≡◌, ◌≢◌, ◌⊎◌, inl, inr, ℕ, ◌+◌, ◌-◌, ◌*◌, ◌<◌, ◌≤◌, Bool, true, false, cond, IsTrue, IsSomeAnd, if◌then◌else◌, List, [], ◌∷◌, length, sum, slice_get, slice_index, slice_index_or, slice_set, Option, None, Some, refl, sym, ap, subst, ◌∙◌, arith, ℤ}
-use Rattle.std.proofs.lemmas.Bool.{cases_eq, ltb-true, lt-ltb}
+use Rattle.std.proofs.Common.{◌≡◌, ◌≢◌, ◌⊎◌, inl, inr, ℕ, ◌*◌, ◌<◌, ◌≤◌, Bool, true, false, cond, IsTrue, IsSomeAnd, if◌then◌else◌, List, [], ◌∷◌, length, sum, slice_get, slice_index, slice_index_or, slice_set, Option, None, Some, refl, sym, ap, subst, ◌∙◌, arith, ℤ}
+use Rattle.std.proofs.lemmas.Bool.{ltb-true, lt-ltb}
 use Rattle.std.proofs.lemmas.List.{length-set}
 use Rattle.std.specs.Option.{option_map_or}
 use Rattle.ny_check.specs.Code.{Code}
@@ -11,10 +11,8 @@ use Rattle.ny_heap.specs.Steps.{IsHeldAt, IsSettledUnit, changed, without_mark, 
 use Rattle.ny_heap.specs.declared.sound.Sound.{Sound}
 use Rattle.ny_hands.specs.declared.branch.Branch.{Branch}
 use Rattle.ny_hands.specs.Frames.{part_is}
-use Rattle.ny_hands.specs.Hands.{IsLike}
 use Rattle.ny_hands.proofs.OptionLemmas.{some_same, same_at, and_some}
 use Rattle.ny_hands.proofs.HeapLemmas.{reached_stays}
-use Rattle.ny_hands.proofs.MarkLemmas.{marked_like}
 use Rattle.ny_trace.proofs.HeightLemmas.{ComesFrom, from_trimmed}
 use Rattle.ny_walk.specs.Below.{IsSettled}
 use Rattle.ny_eval.specs.Playing.{IsPulled, IsChannel, ArePlaying}

@@ -1,5 +1,5 @@
 -- The channels of a program at their beginning.
-use Rattle.std.proofs.Common.{◌≡◌, ℕ, zero, suc, ◌+◌, ◌*◌, ◌<◌, ◌≤◌, ◌==◌, min, Bool, true, false, if◌then◌else◌, List, [], ◌∷◌, ◌++◌, map, length, sum, slice_get, slice_index, slice_index_or, Option, None, Some, refl, sym, ap, subst, ◌∙◌, arith, ℤ}
+use Rattle.std.proofs.Common.{◌≡◌, ℕ, zero, suc, ◌+◌, ◌<◌, ◌≤◌, ◌==◌, Bool, true, false, if◌then◌else◌, List, [], ◌∷◌, ◌++◌, map, length, sum, slice_get, slice_index, slice_index_or, Option, None, Some, refl, sym, ap, subst, ◌∙◌, arith, ℤ}
 use Rattle.std.proofs.lemmas.Bool.{eqb-true}
 use Rattle.std.proofs.lemmas.List.{append_assoc, append-nil}
 use Rattle.std.specs.Option.{option_map_or}
@@ -9,8 +9,8 @@ use Rattle.ny_num.specs.Sound as sounds
 use Rattle.ny_num.specs.Sound.{timing_of}
 use Rattle.ny_check.specs.Code.{Code}
 use Rattle.ny_check.specs.Channels.{channels}
-use Rattle.ny_heap.specs.Heap.{Node, HeapState, node_at, list_of, place_of}
-use Rattle.ny_heap.specs.Means.{Whole, Means, sound_in}
+use Rattle.ny_heap.specs.Heap.{Node, HeapState, node_at, list_of}
+use Rattle.ny_heap.specs.Means.{Whole, Means}
 use Rattle.ny_heap.specs.Reach.{HeapLaws}
 use Rattle.ny_heap.specs.Steps.{IsHeldSound}
 use Rattle.ny_heap.specs.declared.sound.Sound.{Sound}

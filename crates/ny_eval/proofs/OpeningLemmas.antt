@@ -1,5 +1,5 @@
 -- What is played becomes channels, one after another: what each is, and that its unit is read by one sound alone.
-use Rattle.std.proofs.Common.{◌≡◌, inl, inr, ℕ, zero, suc, ◌+◌, ◌<◌, ◌≤◌, ◌==◌, false, List, [], ◌∷◌, ◌++◌, map, length, None, refl, sym, ap, subst, ◌∙◌, arith}
+use Rattle.std.proofs.Common.{◌≡◌, inl, inr, ℕ, ◌≤◌, false, List, [], ◌∷◌, ◌++◌, map, refl, sym, ap, subst, ◌∙◌, arith}
 use Rattle.std.proofs.lemmas.Bool.{cases_eq}
 use Rattle.std.proofs.lemmas.List.{append_assoc, append-nil}
 use Rattle.std.specs.Option.{option_map_or}
@@ -20,7 +20,7 @@ use Rattle.ny_heap.specs.declared.sound.Sound.{Sound}
 use Rattle.ny_hands.specs.declared.branch.Branch.{Branch}
 use Rattle.ny_hands.specs.Calls.{MakesUnit}
 use Rattle.ny_hands.specs.Frames.{part_is}
-use Rattle.ny_hands.specs.Hands.{Item, item, sounds_in, Hand, Comes, IsLike, marks_at, marks_of}
+use Rattle.ny_hands.specs.Hands.{Item, item, sounds_in, Comes, IsLike, marks_at, marks_of}
 use Rattle.ny_hands.proofs.OptionLemmas.{same_at}
 use Rattle.ny_hands.proofs.HeapLemmas.{Length, Empty, Long, length_of}
 use Rattle.ny_hands.proofs.HandLemmas.{marks_append}

@@ -1,12 +1,12 @@
 -- The channels of what a program plays, where there was no unit before.
-use Rattle.std.proofs.Common.{◌≡◌, ℕ, ◌+◌, ◌<◌, false, List, [], ◌++◌, map, length, refl, sym, ap, subst, ◌∙◌}
+use Rattle.std.proofs.Common.{◌≡◌, ◌+◌, false, List, [], map, refl, sym, ap, subst, ◌∙◌}
 use Rattle.std.proofs.lemmas.List.{append-nil}
 use Rattle.ny_num.specs.declared.rate.Rate.{Rate}
 use Rattle.ny_warp.specs.declared.env.Env.{Env}
 use Rattle.ny_warp.specs.Environment.{opening}
 use Rattle.ny_check.specs.declared.node.ExprId.{ExprId}
 use Rattle.ny_check.specs.Code.{Code, IsOrdered}
-use Rattle.ny_check.specs.Channels.{played, channel_at, channels}
+use Rattle.ny_check.specs.Channels.{channel_at, channels}
 use Rattle.ny_heap.specs.Heap.{HeapState, node_at}
 use Rattle.ny_heap.specs.Means.{Whole}
 use Rattle.ny_heap.specs.declared.sound.Sound.{Sound}

@@ -1,19 +1,19 @@
 -- One block more of a channel: its unit goes on, and those of the other channels, which no unit uses, stay as they are.
-use Rattle.std.proofs.Common.{◌≡◌, ◌⊎◌, inl, inr, ℕ, zero, suc, ◌+◌, ◌*◌, ◌<◌, ◌≤◌, ◌==◌, min, max, true, false, if◌then◌else◌, List, [], ◌∷◌, length, sum, take, slice_get, slice_index, slice_index_or, slice_set, Option, None, Some, refl, sym, ap, subst, ◌∙◌, arith, ℤ}
+use Rattle.std.proofs.Common.{◌≡◌, ◌⊎◌, inl, inr, ℕ, zero, suc, ◌+◌, ◌*◌, ◌<◌, ◌≤◌, ◌==◌, min, max, true, false, if◌then◌else◌, List, [], ◌∷◌, length, take, slice_get, slice_index, slice_index_or, slice_set, Option, None, Some, refl, sym, ap, subst, ◌∙◌, arith, ℤ}
 use Rattle.std.specs.Prelude.{◌≢◌, nat_eq}
 use Rattle.std.proofs.lemmas.Bool.{cases_eq}
 use Rattle.std.proofs.lemmas.Bool.Decides.{eqb_tells}
 use Rattle.std.proofs.lemmas.List.{length-set}
 use Rattle.ny_check.specs.Code.{Code}
 use Rattle.ny_check.specs.Heights.{height_of}
-use Rattle.ny_heap.specs.Heap.{Waiting, Captured, Node, HeapState, node_at, list_of, place_of}
+use Rattle.ny_heap.specs.Heap.{HeapState, node_at, list_of, place_of}
 use Rattle.ny_heap.specs.Means.{Whole, sound_in}
 use Rattle.ny_heap.specs.Reach.{Uses, Hold, HeapLaws}
 use Rattle.ny_heap.specs.declared.sound.Sound.{Sound}
 use Rattle.ny_hands.specs.declared.branch.Branch.{Branch}
-use Rattle.ny_hands.proofs.OptionLemmas.{none_some, some_same, same_at}
-use Rattle.ny_trace.specs.Heights.{HasRoom, Ranks}
-use Rattle.ny_walk.specs.Below.{IsSettled, Below, Continues, Walked, Stopped}
+use Rattle.ny_hands.proofs.OptionLemmas.{some_same, same_at}
+use Rattle.ny_trace.specs.Heights.{Ranks}
+use Rattle.ny_walk.specs.Below.{IsSettled, Below, Walked, Stopped}
 use Rattle.ny_walk.specs.Heard.{HeardWhole, StaysHeard}
 use Rattle.ny_walk.proofs.BelowLemmas.{uses_same, user_there}
 use Rattle.ny_eval.specs.Playing.{IsPulled, IsChannel, ArePlaying}

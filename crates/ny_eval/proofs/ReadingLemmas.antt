@@ -1,5 +1,5 @@
 -- A block of a channel is read.
-use Rattle.std.proofs.Common.{◌≡◌, ◌≢◌, inl, inr, ℕ, ◌+◌, ◌-◌, ◌*◌, ◌<◌, ◌≤◌, min, List, [], ◌∷◌, length, sum, take, drop, slice_get, slice_index, slice_index_or, slice_set, Option, None, Some, refl, sym, ap, subst, ◌∙◌, arith, ℤ, length-take, length-drop}
+use Rattle.std.proofs.Common.{◌≡◌, ◌≢◌, inl, inr, ℕ, ◌+◌, ◌-◌, ◌*◌, ◌<◌, ◌≤◌, min, List, [], length, sum, take, drop, slice_get, slice_index, slice_index_or, slice_set, Option, Some, refl, sym, ap, subst, ◌∙◌, arith, ℤ, length-take, length-drop}
 use Rattle.std.proofs.lemmas.Bool.{cases_eq}
 use Rattle.std.proofs.lemmas.List.{take_min, length-set}
 use Rattle.std.specs.Option.{option_map_or}

@@ -1,5 +1,5 @@
 -- A channel that a call of the heap leaves as it is, and lists in which one place is set.
-use Rattle.std.proofs.Common.{◌≡◌, ◌≢◌, ℕ, zero, suc, ◌*◌, ◌<◌, ◌≤◌, min, List, [], ◌∷◌, length, sum, slice_get, slice_index, slice_set, Option, None, Some, refl, sym, ap, subst, ◌∙◌, arith, ℤ}
+use Rattle.std.proofs.Common.{◌≡◌, ◌≢◌, ℕ, zero, suc, ◌*◌, ◌<◌, ◌≤◌, min, List, [], ◌∷◌, length, sum, slice_get, slice_index, slice_set, Option, None, Some, refl, sym, ap, subst, arith, ℤ}
 use Rattle.ny_heap.specs.Heap.{Node, HeapState, node_at, list_of, place_of, stands_in, computed_of}
 use Rattle.ny_heap.specs.Means.{Whole}
 use Rattle.ny_heap.specs.Steps.{IsHeldAt}

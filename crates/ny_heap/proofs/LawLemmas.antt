@@ -226,21 +226,22 @@ module _ (B : Type 0) (bs : ℕ → List B) (t : Table) (heap : IsHeap t) (have 
         kept_sum (suc k) os ls (λ i. let next : suc k + i ≡ k + suc i = omega arith in ap (λ n. kept_of {B = B} (state_of bs t fills peak) n (get_or os i None)) next ∙ same (suc i)),
       )
 
+  -- a unit's list keeps as many blocks as are seen
+  pub kept_is : (i : ℕ) (o : Option UnitData) → unit_at t i ≡ o → kept_of {B = B} (state_of bs t fills peak) i (node_at {B = B} (state_of bs t fills peak) i) ≡ option_map_or {U = ℕ} lists.kept_of (list_at t.store i) 0
+  kept_is i (Some x) at =
+      let u = table.units i x at in
+      ap (kept_of {B = B} (state_of bs t fills peak) i) (node_of_unit B bs t fills peak i x at)
+      ∙ ap (λ n. n - first_kept {B = B} (state_of bs t fills peak) i (node_of bs t [] i x)) (filled_is t.store i u.0 u.1)
+      ∙ ap (λ n. length u.0.values - n) (first_kept_is i x u.0 at u.1)
+      ∙ sym (ap (λ (q : Option ListState). option_map_or {U = ℕ} lists.kept_of q 0) u.1)
+  kept_is i None at =
+      ap (kept_of {B = B} (state_of bs t fills peak) i) (Rattle.ny_heap.proofs.ViewLemmas.no_node B bs t fills peak i at)
+      ∙ sym (ap (λ (q : Option ListState). option_map_or {U = ℕ} lists.kept_of q 0) (list_none i at))
+
   pub live_is : live_of {B = B} (state_of bs t fills peak) ≡ taken_of t.store
   live_is =
       omega (
         arith,
-        kept_sum 0 (map (λ w. option_map (node_of {B = B} bs t [] w) (unit_at t w)) (range_with_len 0 (length t.units.items))) t.store.lists (λ i. let e : 0 + i ≡ i = omega arith in ap (λ n. kept_of {B = B} (state_of bs t fills peak) n (node_at {B = B} (state_of bs t fills peak) i)) e ∙ each i (unit_at t i) refl),
+        kept_sum 0 (map (λ w. option_map (node_of {B = B} bs t [] w) (unit_at t w)) (range_with_len 0 (length t.units.items))) t.store.lists (λ i. let e : 0 + i ≡ i = omega arith in ap (λ n. kept_of {B = B} (state_of bs t fills peak) n (node_at {B = B} (state_of bs t fills peak) i)) e ∙ kept_is i (unit_at t i) refl),
         table.loose,
       )
-    where
-      each : (i : ℕ) (o : Option UnitData) → unit_at t i ≡ o → kept_of {B = B} (state_of bs t fills peak) i (node_at {B = B} (state_of bs t fills peak) i) ≡ option_map_or {U = ℕ} lists.kept_of (list_at t.store i) 0
-      each i (Some x) at =
-          let u = table.units i x at in
-          ap (kept_of {B = B} (state_of bs t fills peak) i) (node_of_unit B bs t fills peak i x at)
-          ∙ ap (λ n. n - first_kept {B = B} (state_of bs t fills peak) i (node_of bs t [] i x)) (filled_is t.store i u.0 u.1)
-          ∙ ap (λ n. length u.0.values - n) (first_kept_is i x u.0 at u.1)
-          ∙ sym (ap (λ (q : Option ListState). option_map_or {U = ℕ} lists.kept_of q 0) u.1)
-      each i None at =
-          ap (kept_of {B = B} (state_of bs t fills peak) i) (Rattle.ny_heap.proofs.ViewLemmas.no_node B bs t fills peak i at)
-          ∙ sym (ap (λ (q : Option ListState). option_map_or {U = ℕ} lists.kept_of q 0) (list_none i at))

@@ -12,6 +12,7 @@ pub mod SpentLemmas
 pub mod RoomLemmas
 pub mod ViewLemmas
 pub mod LawLemmas
+pub mod KindLemmas
 pub mod StepLemmas
 pub mod WantLemmas
 pub mod OpenLemmas

@@ -5,7 +5,9 @@ use Rattle.std.specs.Option.{option_map_or}
 use Rattle.ny_kernels.specs.declared.operation.Op.{Op}
 use Rattle.ny_kernels.specs.declared.operation.Op.TheVariants as op
 use Rattle.ny_units.specs.declared.leaves.Leaf.{Leaf}
-use Rattle.ny_units.specs.declared.leaves.Leaf.TheVariants as leaf
+use Rattle.ny_units.specs.declared.leaves.LeafKind.{LeafKind}
+use Rattle.ny_units.specs.declared.leaves.LeafKind.TheVariants as leaf
+use Rattle.ny_units.specs.LeafKinds.{leaf_kind}
 use Rattle.ny_heap.specs.declared.make.Make.{Make}
 use Rattle.ny_heap.specs.declared.make.Make.TheVariants as make
 use Rattle.ny_heap.specs.Heap as heap
@@ -63,14 +65,17 @@ kind_of_op op.Max = Max
 kind_of_op op.Min = Min
 
 -- the kind of a leaf
+abbrev pub kind_of_voice : LeafKind → UnitKind
+kind_of_voice leaf.Const = Const
+kind_of_voice leaf.Ramp = Ramp
+kind_of_voice leaf.Osc = Osc
+kind_of_voice leaf.HzOsc = HzOsc
+kind_of_voice leaf.Lfo = Lfo
+kind_of_voice leaf.Noise = Noise
+kind_of_voice leaf.Pwl = Pwl
+
 abbrev pub kind_of_leaf : Leaf → UnitKind
-kind_of_leaf (leaf.Const value) = Const
-kind_of_leaf (leaf.Ramp len) = Ramp
-kind_of_leaf (leaf.Osc inc loud) = Osc
-kind_of_leaf (leaf.HzOsc inc loud) = HzOsc
-kind_of_leaf (leaf.Lfo inc) = Lfo
-kind_of_leaf (leaf.Noise x loud) = Noise
-kind_of_leaf (leaf.Pwl knots) = Pwl
+kind_of_leaf l = kind_of_voice (leaf_kind l)
 
 -- the kind of what is made
 abbrev pub kind_of_make : Make → UnitKind

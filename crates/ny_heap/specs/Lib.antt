@@ -9,6 +9,7 @@ pub mod Work
 pub mod Tasks
 pub mod Table
 pub mod View
+pub mod Counting
 pub mod Making
 pub mod Mixing
 pub mod Filling

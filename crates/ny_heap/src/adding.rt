@@ -7,7 +7,7 @@ ghost use Rattle.ny_heap.specs.Table.{IsTable, Drops};
 ghost use Rattle.ny_heap.specs.Making.{More, Grows, HasRoom, Places, first_cursor, IsMade};
 ghost use Rattle.ny_heap.specs.Tasks.{IsTask, IsReady, IsCount, kind_of_task, waits_of_task, cursors_left};
 
-use crate::removal::{drop_all, drop_reader};
+use crate::blocks::{drop_all, drop_reader};
 use crate::sound::{Sound, same_timing};
 use crate::table::{Table, Unit};
 use crate::task::{Task, Unused, begin_work, waiting_in, waits_of};

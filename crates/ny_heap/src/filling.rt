@@ -1,8 +1,8 @@
-ghost use Rattle.std.specs.Prelude.{◌≡◌, ◌<◌, IsTrue, length};
+ghost use Rattle.std.specs.Prelude.{◌≡◌, ◌<◌, length};
 ghost use Rattle.ny_list.specs.Store.{free_of};
-ghost use Rattle.ny_heap.specs.Table.{IsThere, is_open_in};
-ghost use Rattle.ny_heap.specs.Filling.{CanFill, Computes, Appends, FillsBlock};
+ghost use Rattle.ny_heap.specs.Filling.{CanFill, Computes, FillsBlock};
 
+use crate::blocks::append;
 use crate::settling::settle_all;
 use crate::table::{Table, computed, computed_next};
 use ny_num::Sample;
@@ -21,21 +21,6 @@ fn compute(table: &mut Table, waves: &Waves, u: u32, out: &mut [Sample])
     let unit = table.units[u as usize].as_mut().unwrap();
     unit.work
         .fill(&reads, waves, from, &mut out[..(end - from) as usize]);
-}
-
-// Adds a block with these samples to a unit's list.
-fn append(table: &mut Table, u: u32, samples: &[Sample])
-    requires there { IsThere table.old u }
-    requires unfilled { IsTrue (is_open_in table.old u) }
-    requires block { table.old.store.block ≡ table.old.block }
-    requires whole { length samples.now ≡ table.old.block }
-    requires free { 0 < free_of table.old.store }
-    ensures { Appends table.old table.new u samples.now }
-{
-    let b = table.store.take().unwrap();
-    table.store.write(b, samples);
-    let unit = table.units[u as usize].as_mut().unwrap();
-    table.store.append_block(&mut unit.list, b);
 }
 
 /// Computes and adds a unit's next block, and gives back what its inputs have passed.

@@ -1,6 +1,7 @@
 ghost use Rattle.std.specs.Prelude.{◌≡◌, ◌≢◌, nat_lt, if◌then◌else◌, ℕ, ◌+◌, ◌-◌, ◌<◌, ◌≤◌, ◌↔◌, ◌^◌, IsTrue, IsSome, IsSomeAnd, IfNone, option_copied, [], Some, None, IfSome, IfOk, OnOk, OnErr, is_err, length, take, drop, map, ◌++◌};
 ghost use Rattle.std.specs.Option.{option_map};
 ghost use Rattle.ny_heap.specs.Heap.{HeapState, Made, node_at, list_of, place_of, open_unit, is_open, live_of, free_of};
+ghost use Rattle.ny_heap.specs.Kinds.{live_by_kind};
 ghost use Rattle.ny_heap.specs.Means.{Parts, Whole, Means, KeepsMeaning, sound_in};
 ghost use Rattle.ny_heap.specs.Reach.{HeapLaws, IsTrimmed};
 ghost use Rattle.ny_heap.specs.Revealing.{due_of, has_waiting, HandsOut, Promises, IsNextPart, Attaches, Delivers};
@@ -11,11 +12,11 @@ ghost use Rattle.ny_heap.specs.Steps.{IsHeldSound, with_sound, without_sound, wi
 
 use crate::adding::make_unit;
 use crate::attaching::{any_waits, attach_part, hand_out, last_stop_of};
+use crate::blocks::{drop_reader, read_next};
 use crate::filling::fill_block;
+use crate::kinds::kept_by_kind;
 use crate::make::Make;
 use crate::mixing::{drop_parts, place_branches, split};
-use crate::reading::read_next;
-use crate::removal::drop_reader;
 use crate::revealing::{first_branch, is_due, take_branch};
 use crate::sharing::{moved, readers, share_reader};
 use crate::sound::{Sound, begin, list_in, same_timing};
@@ -158,6 +159,25 @@ impl<B> Heap<B> {
         ensures laws { HeapLaws self.now }
     {
         self.size - self.table.store.free()
+    }
+
+    /// How many blocks are taken, by the kind of the unit that computed them: for each kind those of the
+    /// lists of its units (`docs/DEFINITIONS.md`, "The heap"). The kinds, from place 0 on, are `const`,
+    /// `ramp`, `osc`, `hzosc`, `lfo`, `noise`, `pwl`, `data`, `abs`, `add`, `sub`, `mul`, `max`, `min`,
+    /// `resample`, `filter`, `mix` and `channel`.
+    pub fn live_by_kind(&self) -> [u32; 18]
+        ensures kinds { result ≡ live_by_kind self.now }
+        ensures laws { HeapLaws self.now }
+    {
+        kept_by_kind(&self.table)
+    }
+
+    /// The greatest number of blocks taken at once: before a fill that succeeded, and 1 more. 0 where
+    /// nothing was filled.
+    pub fn peak(&self) -> u32
+        ensures { result ≡ self.now.peak }
+    {
+        self.peak
     }
 
     /// How many places there are for units, taken or not. No unit stands on a tower of so many others.

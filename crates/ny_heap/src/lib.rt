@@ -7,12 +7,12 @@
 
 mod adding;
 mod attaching;
+mod blocks;
 mod filling;
 mod heap;
+mod kinds;
 mod make;
 mod mixing;
-mod reading;
-mod removal;
 mod revealing;
 mod settling;
 mod sharing;

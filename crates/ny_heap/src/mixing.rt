@@ -5,7 +5,7 @@ ghost use Rattle.ny_heap.specs.Work.{flat, cursors_of_sounds};
 ghost use Rattle.ny_heap.specs.Table.{IsTable, Drops};
 ghost use Rattle.ny_heap.specs.Mixing.{branches_in, lists_in, kept_by};
 
-use crate::removal::drop_sounds;
+use crate::blocks::drop_sounds;
 use crate::sound::Sound;
 use crate::table::Table;
 use ny_list::Cursor;

@@ -1,15 +1,13 @@
 ghost use Rattle.std.specs.Prelude.{◌≡◌, ◌+◌, [], ◌∷◌, IsSome, MatchOption};
 ghost use Rattle.std.specs.Option.{ForSome};
-ghost use Rattle.ny_units.specs.Inputs.{IsReader};
-ghost use Rattle.ny_heap.specs.Work.{inputs_in, source_at, cursor_at, without_cursor_at, with_cursor_at, waits_in, without_first};
-ghost use Rattle.ny_heap.specs.declared.settling.Next.TheVariants.{Drop, Pass};
+ghost use Rattle.ny_heap.specs.Work.{inputs_in, waits_in, without_first};
+ghost use Rattle.ny_heap.specs.declared.settling.Next.TheVariants.{Drop};
 ghost use Rattle.ny_heap.specs.Table.{unit_at, IsTable, IsRead};
 ghost use Rattle.ny_heap.specs.Filling.{Reworks, HasInput, IsNextOf, Settling, Settles, Forgetting, WaitsStill};
 
-use crate::removal::{drop_reader, drop_sounds};
+use crate::blocks::{drop_reader, drop_sounds, pass, take_input};
 use crate::sound::Sound;
 use crate::table::{Table, computed, inputs_of, is_unfilled, unit_of};
-use ny_list::Cursor;
 
 /// What is to be done about an input once its unit has one block more.
 pub(crate) enum Next {
@@ -37,26 +35,6 @@ fn next_of(table: &Table, u: u32, i: u32) -> Next
     Next::Pass(need - table.store.position(c))
 }
 
-// Takes the cursor of an input.
-fn take_input(table: &mut Table, u: u32, i: u32) -> Option<Cursor>
-    requires inside { HasInput table.old u i }
-    ensures cursor { ForSome (unit_at table.old u) (λ x. result ≡ cursor_at x.work i) }
-    ensures taken { ForSome (unit_at table.old u) (λ x. Reworks table.old table.new u x (without_cursor_at x.work i)) }
-{
-    let unit = table.units[u as usize].as_mut().unwrap();
-    unit.work.take_cursor(i)
-}
-
-// Puts the cursor of an input back.
-fn put_input(table: &mut Table, u: u32, i: u32, c: Cursor)
-    requires inside { HasInput table.old u i }
-    requires reader { ForSome (unit_at table.old u) (λ x. IsReader (source_at x.work i)) }
-    ensures { ForSome (unit_at table.old u) (λ x. Reworks table.old table.new u x (with_cursor_at x.work i c)) }
-{
-    let unit = table.units[u as usize].as_mut().unwrap();
-    unit.work.put_cursor(i, c);
-}
-
 // An input has nothing more to read.
 fn forget(table: &mut Table, u: u32, i: u32)
     requires settling { Settling table.old u i }
@@ -67,19 +45,6 @@ fn forget(table: &mut Table, u: u32, i: u32)
 {
     let c = take_input(table, u, i).unwrap();
     drop_reader(table, c);
-}
-
-// An input passes so many samples.
-fn pass(table: &mut Table, u: u32, i: u32, n: u32)
-    requires settling { Settling table.old u i }
-    requires inside { HasInput table.old u i }
-    requires passes { ForSome (unit_at table.old u) (λ x. IsNextOf table.old u i x (Pass n)) }
-    ensures settling { Settling table.new u (i + 1) }
-    ensures settles { Settles table.old table.new u i (i + 1) }
-{
-    let mut c = take_input(table, u, i).unwrap();
-    table.store.advance(&mut c, n);
-    put_input(table, u, i, c);
 }
 
 // Gives back what an input has passed. Where its unit has done with it, its cursor is dropped.

@@ -1,5 +1,5 @@
 -- What is seen of a store, and how its lists begin and end.
-use Rattle.std.proofs.Common.{◌≡◌, ◌≢◌, ◌⊎◌, ◌↔◌, inl, inr, ℕ, ◌^◌, ◌<◌, ◌≤◌, IsTrue, cond, nat_lt, List, [], ◌++◌, length, get_or, map, set, replicate, Option, None, Some, IsSome, is_some, is_none, count_by, sum_by, refl, sym, ap, subst, ◌∙◌, arith, ℤ}
+use Rattle.std.proofs.Common.{◌≡◌, ◌≢◌, ◌⊎◌, ◌↔◌, inl, inr, ℕ, ◌-◌, ◌^◌, ◌<◌, ◌≤◌, IsTrue, cond, nat_lt, List, [], ◌++◌, length, get_or, map, set, replicate, Option, None, Some, IsSome, is_some, is_none, count_by, sum_by, refl, sym, ap, subst, ◌∙◌, arith, ℤ}
 use Rattle.std.proofs.lemmas.List.{get_or_past, length-replicate, get_or-replicate}
 use Rattle.std.proofs.Common.{length-append, Result, Ok, Err, OnOk, OnErr, zero, suc}
 use Rattle.std.specs.declared.alloc.AllocError.{AllocError}
@@ -17,14 +17,14 @@ use Rattle.ny_list.specs.declared.chain.Link.{Link}
 use Rattle.ny_list.specs.declared.chain.Span.{Span}
 use Rattle.ny_list.specs.declared.table.Entry.{Entry}
 use Rattle.ny_list.specs.declared.table.Table.{Table}
-use Rattle.ny_list.specs.Store.{ListState, StoreState, CursorState, list_at, loose_at, cursors_of}
+use Rattle.ny_list.specs.Store.{ListState, StoreState, CursorState, list_at, loose_at, cursors_of, kept_of}
 use Rattle.ny_list.specs.Steps.{Begins, with_list, with_loose}
 use Rattle.ny_list.specs.Chain.{nth, home_of, home_at, IsChained}
 use Rattle.ny_list.specs.Table.{entry_at, span_at, value_of, list_state, loose_of, loose_in, state_of, kept_in, IsEntry, IsTable, IsStore}
 use Rattle.ny_list.proofs.IndexLemmas.{same_some, none_some, tab_get, tab_past, sum_kept, sums_agree}
 use Rattle.ny_list.proofs.StateLemmas.{entry_within, home_inside, list_seen, list_unseen, Sets, set_here, set_other, lists_set, entries_set}
 use Rattle.ny_list.proofs.CursorLemmas.{mark_few}
-use Rattle.ny_list.proofs.LooseLemmas.{IsStore-held, state_held}
+use Rattle.ny_list.proofs.LooseLemmas.{IsStore-held, state_held, kept_seen}
 
 -- ---- a block that is in no list
 
@@ -91,6 +91,9 @@ cursors_seen t l s k x y table is at there seen = (table.lists l x there).counte
 
 pub filled_seen : (t : Table) (l : ℕ) (s : StoreState) (k : ℕ) (x : Entry) (y : ListState) → state_of t ≡ s → l ≡ k → entry_at t l ≡ Some x → list_at s k ≡ Some y → x.span.filled ≡ length y.values
 filled_seen t l s k x y is at there seen = sym (length-map-range_with_len (value_of t l x.span.len) 0 x.span.filled) ∙ ap (λ r. length r.values) (told t l s k x y is at there seen)
+
+pub kept_told : (t : Table) (l : ℕ) (s : StoreState) (k : ℕ) (x : Entry) (y : ListState) → IsStore t → state_of t ≡ s → l ≡ k → entry_at t l ≡ Some x → list_at s k ≡ Some y → x.span.filled - x.span.gone ≡ kept_of y
+kept_told t l s k x y store is at there seen = sym (kept_seen t l x store.table there (store.settled l x there)) ∙ ap kept_of (told t l s k x y is at there seen)
 
 -- ---- lists that begin and end
 

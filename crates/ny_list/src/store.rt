@@ -1,6 +1,6 @@
 ghost use Rattle.std.specs.Prelude.{◌≡◌, ◌≢◌, ℕ, ◌+◌, ◌-◌, ◌<◌, ◌≤◌, ◌↔◌, ◌^◌, ◌++◌, min, [], length, Some, None, IsSome, IsSomeAnd, IsNone, IsTrue, IfSome, IfNone, IfOk, OnOk, OnErr, replicate};
 ghost use Rattle.std.specs.Option.{ForSome};
-ghost use Rattle.ny_list.specs.Store.{list_at, loose_at, spare_of, mark_at, cursors_of, free_of, run_of, blocks_of};
+ghost use Rattle.ny_list.specs.Store.{list_at, loose_at, spare_of, mark_at, cursors_of, kept_of, free_of, run_of, blocks_of};
 ghost use Rattle.ny_list.specs.Laws.{StoreLaws};
 ghost use Rattle.ny_list.specs.Steps.{Takes, Begins, IsComputed, IsUnfilled, with_cursor, without_cursor, with_move, with_block, with_loose, with_list};
 
@@ -257,6 +257,15 @@ impl Store {
         ensures filled { ForSome (list_at self.now l.now) (λ x. result ≡ length x.values) }
     {
         self.table.lists.get(l.slot).span.filled
+    }
+
+    /// How many blocks of a list are kept: those filled, from the least cursor's on.
+    pub fn kept(&self, l: &List) -> u32
+        requires there { IsSome (list_at self.now l.now) }
+        ensures kept { ForSome (list_at self.now l.now) (λ x. result ≡ kept_of x) }
+    {
+        let span = self.table.lists.get(l.slot).span;
+        span.filled - span.gone
     }
 
     /// How many blocks are free.

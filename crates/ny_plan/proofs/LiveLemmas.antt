@@ -1,16 +1,17 @@
 -- Where a heap stands for a plan, as many blocks are kept as are live.
-use Rattle.std.proofs.Common.{◌≡◌, inl, inr, ℕ, zero, suc, ◌+◌, ◌-◌, ◌*◌, ◌/◌, ◌<◌, Bool, true, false, cond, List, [], ◌∷◌, length, get_or, Option, None, Some, refl, sym, ap, ◌∙◌, arith}
+use Rattle.std.proofs.Common.{◌≡◌, inl, inr, ℕ, zero, suc, ◌+◌, ◌-◌, ◌*◌, ◌/◌, ◌<◌, Bool, true, false, cond, nat_eq, List, [], ◌∷◌, length, get_or, Option, None, Some, refl, sym, ap, ◌∙◌, arith}
 use Rattle.std.specs.Prelude.{slice_index}
 use Rattle.std.specs.Option.{option_map_or}
 use Rattle.std.proofs.lemmas.Bool.{cases_lt}
 use Rattle.std.proofs.lemmas.List.{get_or_past}
-use Rattle.ny_list.proofs.IndexLemmas.{none_some}
+use Rattle.ny_list.proofs.IndexLemmas.{none_some, tab_same}
 use Rattle.ny_heap.specs.Heap.{Node, HeapState, node_at, kept_of, kept_from, live_of}
 use Rattle.ny_heap.specs.Reach.{HeapLaws}
-use Rattle.ny_heap.specs.Kinds.{UnitKind, unit_kind, kept_of_kinds}
+use Rattle.ny_heap.specs.Kinds.{UnitKind, place_of_kind, unit_kind, kept_of_kinds, live_of_kind, live_by_kind}
 use Rattle.ny_plan.specs.Rows.{Row, row_at}
 use Rattle.ny_plan.specs.Need.{Filled}
 use Rattle.ny_plan.specs.Liveness.{readers, is_held, least_passed, live_in, live_below, live_of_kinds, live}
+use Rattle.ny_plan.specs.Lines as lines
 use Rattle.ny_plan.specs.Held.{IsInOrder}
 use Rattle.ny_plan.specs.StandsFor.{Matches}
 use Rattle.ny_plan.proofs.SumLemmas.{sum_to, sum_to-alike, sum_by_match}
@@ -107,3 +108,8 @@ all_kinds B h v (Some x ∷ os) = ap (λ k. kept_of h v (Some x) + k) (all_kinds
 pub live_is : (B : Type 0) (block : ℕ) (rows : List Row) (filled : Filled) (h : HeapState B) (row : ℕ → ℕ) → Matches {B = B} block rows filled h row → HeapLaws h → IsInOrder block rows filled → live_of h ≡ live block rows filled
 unfolding live
 live_is B block rows filled h row m laws order = all_kinds B h 0 h.nodes ∙ kept_are_live B (λ kind. true) block rows filled h row m laws order
+
+-- and of each kind
+pub live_kinds_is : (B : Type 0) (block : ℕ) (rows : List Row) (filled : Filled) (h : HeapState B) (row : ℕ → ℕ) → Matches {B = B} block rows filled h row → HeapLaws h → IsInOrder block rows filled → live_by_kind h ≡ lines.live_by_kind block rows filled
+live_kinds_is B block rows filled h row m laws order =
+    tab_same (live_of_kind {B = B} h) (λ k. live_of_kinds (λ kind. nat_eq (place_of_kind kind) k) block rows filled) 18 0 (λ k inside. kept_are_live B (λ kind. nat_eq (place_of_kind kind) k) block rows filled h row m laws order)

@@ -6,12 +6,13 @@ ghost use Rattle.ny_num.specs.declared.rate.Rate.{Rate};
 ghost use Rattle.ny_check.specs.Code.{Code};
 ghost use Rattle.ny_check.specs.Channels.{channels};
 ghost use Rattle.ny_heap.specs.Heap.{live_of};
-ghost use Rattle.ny_heap.specs.Kinds.{UnitKind, kept_of_kinds};
+ghost use Rattle.ny_heap.specs.Kinds.{UnitKind, kept_of_kinds, live_by_kind};
 ghost use Rattle.ny_plan.specs.Rows.{RowSound, Input, Row, row_at, beginning, whole_at};
 ghost use Rattle.ny_plan.specs.Plan.{plan};
 ghost use Rattle.ny_plan.specs.Need.{Filled, need, has_come};
 ghost use Rattle.ny_plan.specs.Fills.{Pulls, Fills, has_ended, counts, fills};
 ghost use Rattle.ny_plan.specs.Lines.{no_pulls, pulled};
+ghost use Rattle.ny_plan.specs.Lines as lines;
 ghost use Rattle.ny_plan.specs.Liveness.{live, live_of_kinds};
 ghost use Rattle.ny_plan.specs.Peak.{nothing_filled};
 ghost use Rattle.ny_plan.specs.Order.{IsBelow, AllRows};
@@ -50,10 +51,12 @@ pub fn order_law()
 {}
 
 /// Kept blocks are live blocks: a heap whose units are those of a table of rows has as many blocks taken as are live (`all`), and as many
-/// of the units of some kinds as are live of the rows of these kinds (`by_kind`).
+/// of the units of some kinds as are live of the rows of these kinds (`by_kind`). So the counts of all kinds are those that the lines of a
+/// run tell (`kinds`).
 pub fn live_law<B>(heap: &Heap<B>)
     ensures all { (rows : List Row) (filled : Filled) (row : ℕ → ℕ) → AllRows rows → Matches heap.now.block rows filled heap.now row → live_of heap.now ≡ live heap.now.block rows filled }
     ensures by_kind { (kinds : UnitKind → Bool) (rows : List Row) (filled : Filled) (row : ℕ → ℕ) → AllRows rows → Matches heap.now.block rows filled heap.now row → kept_of_kinds kinds heap.now 0 heap.now.nodes ≡ live_of_kinds kinds heap.now.block rows filled }
+    ensures kinds { (rows : List Row) (filled : Filled) (row : ℕ → ℕ) → AllRows rows → Matches heap.now.block rows filled heap.now row → live_by_kind heap.now ≡ lines.live_by_kind heap.now.block rows filled }
 {
     let _free = heap.free();
 }

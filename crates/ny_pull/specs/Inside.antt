@@ -30,7 +30,7 @@ pub record IsEngineInside (code : Code) (rate : Rate) (h : HeapState Branch) (so
   pub few : length sounds ≤ 8
   pub len : frames ≡ longest (channels code rate)
   pub total : pulls ≡ sum pulled
-  -- no channel is pulled more often than it has samples
+  -- no channel is pulled more often than an hour has samples
   pub bounded : (c : ℕ) → slice_index pulled c ≤ 172800000
   pub laws : HeapLaws h
   pub given : (c : ℕ) (o : Option Sound) → slice_get sounds c ≡ Some o → HasGiven o (length (slice_index_or (channels code rate) c (silence rate)).samples) (slice_index pulled c * h.block)

@@ -3,6 +3,7 @@ ghost use Rattle.std.specs.Option.{option_map};
 ghost use Rattle.ny_num.specs.Grid.{last_index};
 ghost use Rattle.ny_check.specs.Channels.{channels, longest};
 ghost use Rattle.ny_heap.specs.Heap.{HeapState, live_of, list_of, place_of};
+ghost use Rattle.ny_heap.specs.Kinds.{live_by_kind};
 ghost use Rattle.ny_heap.specs.declared.sound.Sound.{Sound as SoundOf};
 ghost use Rattle.ny_hands.specs.declared.branch.Branch.{Branch as BranchOf};
 ghost use Rattle.ny_heap.specs.Means.{Parts, Whole, Means, KeepsMeaning, sound_in};
@@ -200,7 +201,7 @@ impl Engine {
         self.channels.as_slice().len() as u32
     }
 
-    /// How many frames there are: one for each sample of the channel.
+    /// How many frames there are: one for each sample of the longest channel.
     pub fn frames(&self) -> u32
         ensures { result ≡ longest (channels self.now.code self.now.rate) }
     {
@@ -295,6 +296,22 @@ impl Engine {
         ensures full { IfSome self.now.spent (λ fault. fault ≢ PullFault.OutOfMemory → result ≡ self.now.heap.pool) }
     {
         self.heap.live()
+    }
+
+    /// How many blocks of the pool are taken, by the kind of the unit that computed them, in the order of
+    /// `Heap::live_by_kind`.
+    pub fn live_by_kind(&self) -> [u32; 18]
+        ensures { result ≡ live_by_kind self.now.heap }
+    {
+        self.heap.live_by_kind()
+    }
+
+    /// The greatest number of blocks that were taken at once by a fill: those taken before it, and 1 more.
+    /// 0 where nothing was filled.
+    pub fn peak(&self) -> u32
+        ensures { result ≡ self.now.heap.peak }
+    {
+        self.heap.peak()
     }
 
     /// Whether a part waits at a unit that has a block left to fill. Where none waits a pull takes no memory.

@@ -1,3 +1,4 @@
+pub mod LeafKinds
 pub mod Lines
 pub mod Neighbours
 pub mod Courses

@@ -28,3 +28,15 @@ pub enum Leaf {
     /// Straight lines from knot to knot, the first of which stands at 0.
     Pwl(Vec<Knot>),
 }
+
+/// What a leaf is, without its numbers.
+#[derive(Clone, Copy)]
+pub enum LeafKind {
+    Const,
+    Ramp,
+    Osc,
+    HzOsc,
+    Lfo,
+    Noise,
+    Pwl,
+}

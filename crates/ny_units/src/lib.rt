@@ -22,7 +22,7 @@ mod waves;
 pub use abs::AbsUnit;
 pub use copy::CopyUnit;
 pub use input::{Input, Source};
-pub use leaves::{Knot, Leaf};
+pub use leaves::{Knot, Leaf, LeafKind};
 pub use pair::PairUnit;
 pub use resample::ResampleUnit;
 pub use unit::LeafUnit;

@@ -83,6 +83,13 @@ impl PairUnit {
         }
     }
 
+    /// Its operation.
+    pub fn op(&self) -> Op
+        ensures { result ≡ self.now.op }
+    {
+        self.op
+    }
+
     /// Writes the samples from `from` on, counted from the start, as many as `out` has places. Each input whose cursor is
     /// left is computed as far as the slice asks of it.
     pub fn fill(&mut self, reads: &Reads<'_>, from: u32, out: &mut [Sample])

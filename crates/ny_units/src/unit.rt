@@ -1,8 +1,9 @@
 ghost use Rattle.std.specs.Prelude.{◌≡◌, ℕ, ◌+◌, ◌<◌, ◌≤◌, length, map};
 ghost use Rattle.std.specs.List.{range_with_len};
+ghost use Rattle.ny_units.specs.LeafKinds.{leaf_kind};
 ghost use Rattle.ny_units.specs.Playing.{leaf_value, IsLeaf, Reaches};
 
-use crate::leaves::Leaf;
+use crate::leaves::{Leaf, LeafKind};
 use crate::voice::Voice;
 use ny_num::Sample;
 use ny_wave::Waves;
@@ -40,6 +41,13 @@ impl LeafUnit {
             voice: Voice::of(leaf),
             given: 0,
         }
+    }
+
+    /// What its leaf is.
+    pub fn kind(&self) -> LeafKind
+        ensures { result ≡ leaf_kind self.now.leaf }
+    {
+        self.voice.kind()
     }
 
     /// Writes the samples from `from` on, as many as `out` has places; `from` is where the last

@@ -3,10 +3,11 @@ ghost use Rattle.std.specs.List.{range_with_len};
 ghost use Rattle.ny_num.specs.Leaves.{ramp_value, wave_value, louder_value, noise_state, noise_value};
 ghost use Rattle.ny_wave.specs.Tables.{IsTableSize};
 ghost use Rattle.ny_units.specs.Playing.{leaf_value, IsLeaf, Reaches};
+ghost use Rattle.ny_units.specs.LeafKinds.{leaf_kind};
 ghost use Rattle.ny_units.specs.Voices.{leaf_of, IsVoice};
 
 use crate::envelope::fill_envelope;
-use crate::leaves::{Knot, Leaf};
+use crate::leaves::{Knot, Leaf, LeafKind};
 use crate::line::fill_line;
 use crate::loudness::at_loudness;
 use crate::noise::fill_noise;
@@ -82,6 +83,21 @@ impl Voice {
             Leaf::Lfo { inc } => Voice::Low { inc },
             Leaf::Noise { x, loud } => Voice::Noise { x, state: x, loud },
             Leaf::Pwl(knots) => Voice::Envelope { knots, segment: 0 },
+        }
+    }
+
+    /// What its leaf is.
+    pub(crate) fn kind(&self) -> LeafKind
+        ensures { result ≡ leaf_kind (leaf_of self.now) }
+    {
+        match self {
+            Voice::Constant(_) => LeafKind::Const,
+            Voice::Ramp(_) => LeafKind::Ramp,
+            Voice::Middle { .. } => LeafKind::Osc,
+            Voice::High { .. } => LeafKind::HzOsc,
+            Voice::Low { .. } => LeafKind::Lfo,
+            Voice::Noise { .. } => LeafKind::Noise,
+            Voice::Envelope { .. } => LeafKind::Pwl,
         }
     }
 

@@ -1,4 +1,4 @@
-use Rattle.std.proofs.Common.{◌+◌, ◌<◌, List, [], length, take, arith, refl, sym, ap, subst, ◌∙◌}
+use Rattle.std.proofs.Common.{◌+◌, ◌<◌, List, [], length, take, arith, refl, sym, subst, ◌∙◌}
 use Rattle.ny_resolve.specs.declared.term.NameId.{NameId}
 use Rattle.ny_check.specs.declared.node.ExprId.{ExprId}
 use Rattle.ny_check.specs.Code.{AllBelow, BindsBelow, function_at}

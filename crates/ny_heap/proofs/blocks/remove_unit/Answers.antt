@@ -3,7 +3,7 @@ use Rattle.ny_list.specs.Steps.{with_list}
 use Rattle.ny_list.proofs.IndexLemmas.{same_some}
 use Rattle.ny_heap.specs.Table.{unit_at}
 use Rattle.ny_heap.proofs.TableLemmas.{taken_there}
-use Rattle.ny_heap.proofs.removal.remove_unit.Goals as goal
+use Rattle.ny_heap.proofs.blocks.remove_unit.Goals as goal
 
 pub returns : goal.returns
 returns c =

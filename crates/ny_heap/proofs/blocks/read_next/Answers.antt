@@ -1,6 +1,6 @@
 use Rattle.std.proofs.Common.{◌∙◌, []}
 use Rattle.ny_heap.proofs.ReadLemmas.{seen_marked, run_count, run_passed, run_samples}
-use Rattle.ny_heap.proofs.reading.read_next.Goals as goal
+use Rattle.ny_heap.proofs.blocks.read_next.Goals as goal
 
 pub read_run-requires : goal.read_run-requires
 read_run-requires c = record { stands = seen_marked c.args.table.now c.args.c.now c.see.new.self [] c.args.visible c.requires.table c.see.ensures }

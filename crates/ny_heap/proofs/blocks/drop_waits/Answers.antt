@@ -1,7 +1,7 @@
 use Rattle.std.proofs.Common.{rules, ◌≡◌, [], ap}
 use Rattle.ny_heap.specs.Tasks.{lists_of}
 use Rattle.ny_heap.proofs.SpentLemmas.{Spending-begun, Spending-next, Spending-more, Spending-done}
-use Rattle.ny_heap.proofs.removal.drop_waits.Goals as goal
+use Rattle.ny_heap.proofs.blocks.drop_waits.Goals as goal
 
 pub loop-sounds-init : goal.loop-sounds-init
 loop-sounds-init c = Spending-begun c.args.table.now (lists_of c.args.waits.items) (lists_of _) c.requires (ap lists_of (search rules))

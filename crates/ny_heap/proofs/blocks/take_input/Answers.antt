@@ -4,7 +4,7 @@ use Rattle.ny_heap.specs.declared.table.Unit.{Unit as UnitData}
 use Rattle.ny_heap.specs.Work.{cursor_at, without_cursor_at}
 use Rattle.ny_list.proofs.IndexLemmas.{same_some}
 use Rattle.ny_heap.proofs.TableLemmas.{found_there}
-use Rattle.ny_heap.proofs.settling.take_input.Goals as goal
+use Rattle.ny_heap.proofs.blocks.take_input.Goals as goal
 
 -- what was read of a place is what is there
 read_there : (xs : List (Option UnitData)) (v : ℕ) (x y : UnitData) (now : Option UnitData) → slice_index_or xs v None ≡ Some x → now ≡ slice_index_or xs v now → now ≡ Some y → y ≡ x

@@ -10,7 +10,7 @@ use Rattle.ny_heap.specs.View.{filled_in}
 use Rattle.ny_heap.specs.Filling.{IsNextOf, moved_in}
 use Rattle.ny_heap.proofs.NextLemmas.{inside_of}
 use Rattle.ny_heap.proofs.SettleLemmas.{taken_has, taken_reads, taken_unit_is, advance_stands, advance_computed, passed_settling, passed_settles}
-use Rattle.ny_heap.proofs.settling.pass.Goals as goal
+use Rattle.ny_heap.proofs.blocks.pass.Goals as goal
 
 next_of_cursor : (t : Table) (u i n : ℕ) (x : UnitData) (c : CursorState) → IsNextOf t u i x (Pass n) → cursor_at x.work i ≡ Some c
     → moved_in t.block x (filled_in t.store u) (input_of x i) ≡ Some (record { node = c.list; place = c.place + n; timing = timing_at x i })

@@ -1,7 +1,7 @@
 use Rattle.std.proofs.Common.{length}
 use Rattle.ny_heap.specs.Tasks.{lists_of}
 use Rattle.ny_heap.proofs.SpentLemmas.{Spending}
-use Rattle.ny_heap.proofs.removal.drop_waits.Given as goal
+use Rattle.ny_heap.proofs.blocks.drop_waits.Given as goal
 
 -- the lists that were taken are spent
 abbrev pub invariant-loop-sounds : goal.invariant-loop-sounds

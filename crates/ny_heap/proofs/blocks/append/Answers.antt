@@ -4,7 +4,7 @@ use Rattle.ny_list.proofs.IndexLemmas.{same_some}
 use Rattle.ny_heap.specs.Table.{unit_at}
 use Rattle.ny_heap.proofs.TableLemmas.{found_there}
 use Rattle.ny_heap.proofs.BlockLemmas.{taken_block, appended, unchanged_unit}
-use Rattle.ny_heap.proofs.filling.append.Goals as goal
+use Rattle.ny_heap.proofs.blocks.append.Goals as goal
 
 pub returns : goal.returns
 returns c =

@@ -3,7 +3,7 @@ use Rattle.ny_heap.specs.Work.{waits_in}
 use Rattle.ny_heap.specs.Table.{Drops, present}
 use Rattle.ny_heap.proofs.DropLemmas.{Removing}
 use Rattle.ny_heap.proofs.SpentLemmas.{cursors_in, Spending}
-use Rattle.ny_heap.proofs.removal.+drop.Given as goal
+use Rattle.ny_heap.proofs.blocks.+drop.Given as goal
 
 -- how many units there are
 abbrev pub decreases-drop_reader : goal.decreases-drop_reader

@@ -5,8 +5,8 @@ use Rattle.ny_heap.specs.Table.{present}
 use Rattle.ny_heap.proofs.CountLemmas.{cursor_counted}
 use Rattle.ny_heap.proofs.DropLemmas.{Drops-left, read_still, left_there, Removing-begun, Removing-input, Removing-more, Removing-none, Removing-kept, Removing-done}
 use Rattle.ny_heap.proofs.SpentLemmas.{Drops-unread, last_taken, last_spent, Spending-begun, Spending-next, Spending-more}
-use Rattle.ny_heap.proofs.removal.+drop.Goals as goal
-use Rattle.ny_heap.proofs.removal.+drop.Goals.{drop_reader-in-Some, drop_reader-in_default}
+use Rattle.ny_heap.proofs.blocks.+drop.Goals as goal
+use Rattle.ny_heap.proofs.blocks.+drop.Goals.{drop_reader-in-Some, drop_reader-in_default}
 
 -- ---- a reader
 

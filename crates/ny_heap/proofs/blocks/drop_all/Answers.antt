@@ -1,6 +1,6 @@
 use Rattle.ny_heap.specs.Tasks.{lists_of}
 use Rattle.ny_heap.proofs.SpentLemmas.{sounds_taken, waits_taken, both_spent}
-use Rattle.ny_heap.proofs.removal.drop_all.Goals as goal
+use Rattle.ny_heap.proofs.blocks.drop_all.Goals as goal
 
 pub drop_sounds-requires : goal.drop_sounds-requires
 drop_sounds-requires c = sounds_taken c.args.table.now c.args.sounds.items (lists_of c.args.waits.items) c.requires
