@@ -5,6 +5,7 @@ case by `nyq.py`. With the word `later` it takes the commands that `nyq` doesn't
 as a further word it answers the cases of that list alone."""
 
 import os
+import re
 import sys
 import zlib
 
@@ -100,6 +101,19 @@ def copies_are_the_examples():
             assert one.read() == other.read(), name + " differs from its copy"
 
 
+def lessons_are_cases():
+    """Each text of the course in `docs/LANGUAGE.md` is a case, with its lines joined."""
+    with open(os.path.join(ROOT, "docs", "LANGUAGE.md"), encoding="utf-8") as file:
+        course = file.read().partition("\n## A course")[2].partition("\n## ")[0]
+    fenced = re.findall(r"^```(\w*)\n(.*?)^```$", course, re.DOTALL | re.MULTILINE)
+    texts = [text for language, text in fenced if not language]
+    lines = [line for line, _, _ in cases(os.path.join(DATA, "cases.txt"))]
+    assert len(texts) == 10
+    for text in texts:
+        joined = " ".join(line.strip() for line in text.strip().split("\n"))
+        assert ("render in.sal out.wav << " + joined).encode() in lines, joined + " is no case"
+
+
 def main():
     later = "later" in sys.argv[1:]
     lists = [word for word in sys.argv[1:] if word != "later"]
@@ -109,6 +123,7 @@ def main():
             on_files(path, later, out)
     else:
         copies_are_the_examples()
+        lessons_are_cases()
         on_files(os.path.join(DATA, "cases.txt"), later, out)
         on_failing_hosts(os.path.join(DATA, "hosts.txt"), later, out)
 

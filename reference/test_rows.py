@@ -202,8 +202,12 @@ def vectors():
         code, file, printed = render("play " + text, "--pool 2")
         assert (code, len(file), printed) == (8, size, "pool full after %d pulls\n" % pulls), text
         assert render("play " + text)[1].startswith(file), text
-    code, file, printed = render("play vector(const(0.1, 0.004), const(0.2, 0.004))", fails=[("write", 3)])
-    assert (code, len(file), printed) == (5, 44 + 16 * 4, "fault: write\n")
+    # the header is one write, and the frames of both rounds are the other
+    text = "play vector(const(0.1, 0.004), const(0.2, 0.004))"
+    code, file, printed = render(text, fails=[("write", 2)])
+    assert (code, len(file), printed) == (5, 44, "fault: write\n")
+    code, file, printed = render(text, fails=[("write", 3)])
+    assert (code, len(file), printed) == (0, 44 + 32 * 4, "")
 
 
 def chain(last, zero, step):
@@ -277,6 +281,8 @@ def sounds():
     assert nyq.wave_entry(256, 64) == nyq.wave_entry(4096, 1024) == 1000000
     assert nyq.wave_entry(256, 192) == nyq.wave_entry(4096, 3072) == -1000000
     assert (samples("play sim(const(2000, 0.000125), const(2000, 0.000125), const(-2000, 0.000125))") == [147483647])
+    text = "play scale(0.0001, sim(const(2000, 0.000125), const(2000, 0.000125), const(-2000, 0.000125)))"
+    assert samples(text) == [14748] and frames(text) == "e301"
     for text in ("osc(69, 0.001)", "pwl(0.01, 1, 0.01)", "const(0.5, 0.00125) * osc(69, 1)",
                  "onepole(const(1, 0.0005), 0.5)", "comb(const(0.5, 0.0005), 0.00025, 0.5)"):
         assert render("play " + text) == run("render in.sal out.wav --rate 8000 --block 4096 --pool 64", "play " + text)

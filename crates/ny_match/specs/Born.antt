@@ -33,7 +33,10 @@ pub record Born (code : Code) (all : List Row) (filled : Filled) (old new : Heap
 -- an evaluation makes what the plan makes, of rows that are still free, and gives the plan's sound
 abbrev pub IsMatching : Code → Trace → Type 0
 IsMatching code D =
-    (e : ℕ) (env : Env) (names : frames.Names) (old new : HeapState Branch) (s : Sound) → D e env names old new s → e < length code.nodes → HeapLaws old → AreNamed old names →
-    (all : List Row) (filled : Filled) (seats : Seats) (given : plans.Names) (rows : List Row) → Matched code all filled old seats → AreNames seats.row names given →
+    (e : ℕ) (env : Env) (names : frames.Names) (old new : HeapState Branch) (s : Sound) → D e env names old new s →
+    e < length code.nodes → HeapLaws old → AreNamed old names →
+    (all : List Row) (filled : Filled) (seats : Seats) (given : plans.Names) (rows : List Row) →
+    Matched code all filled old seats → AreNames seats.row names given →
     IsFirst (After.rows (made code e env given rows)) all → IsFree filled old seats (length rows) (length (After.rows (made code e env given rows))) →
-    (b : Born code all filled old new seats (length rows) (length (After.rows (made code e env given rows)))) × IsSound b.later.row s (After.gives (made code e env given rows))
+    (b : Born code all filled old new seats (length rows) (length (After.rows (made code e env given rows)))) ×
+        IsSound b.later.row s (After.gives (made code e env given rows))

@@ -29,9 +29,11 @@ pub record AreReading (p : Plan) (f : Filled) (h : HeapState Branch) (row : ℕ 
   pub count : length sounds ≡ length p.channels
   -- it reads the channel's own row, which is open
   pub names : (k : ℕ) (s : Sound) (r : RowSound) → slice_get sounds k ≡ Some (Some s) → slice_get p.channels k ≡ Some r → r.row ≡ option_map row (list_of s)
-  pub opens : (k n : ℕ) (s : Sound) → slice_get sounds k ≡ Some (Some s) → list_of s ≡ Some n → is_open h.block (row_at p.rows (row n)) (slice_index f (row n)) ≡ true
+  pub opens : (k n : ℕ) (s : Sound) → slice_get sounds k ≡ Some (Some s) → list_of s ≡ Some n →
+      is_open h.block (row_at p.rows (row n)) (slice_index f (row n)) ≡ true
   pub marks : (k n : ℕ) (s : Sound) → slice_get sounds k ≡ Some (Some s) → list_of s ≡ Some n → 0 < marks_at h n (slice_index f (row n))
   pub stands : (k n j : ℕ) (s : Sound) → slice_get sounds k ≡ Some (Some s) → list_of s ≡ Some n → 0 < marks_at h n j → j ≡ slice_index f (row n)
   -- one that has ended is read no more
-  pub ended : (k y : ℕ) (r : RowSound) → slice_get sounds k ≡ Some None → slice_get p.channels k ≡ Some r → r.row ≡ Some y → is_open h.block (row_at p.rows y) (slice_index f y) ≡ false
+  pub ended : (k y : ℕ) (r : RowSound) → slice_get sounds k ≡ Some None → slice_get p.channels k ≡ Some r → r.row ≡ Some y →
+      is_open h.block (row_at p.rows y) (slice_index f y) ≡ false
   pub alone : (v j : ℕ) → 0 < marks_at h v j → (k : ℕ) × (s : Sound) × (slice_get sounds k ≡ Some (Some s)) × (list_of s ≡ Some v)

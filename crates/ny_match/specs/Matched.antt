@@ -108,9 +108,11 @@ pub record IsUnit (code : Code) (block : ℕ) (all : List Row) (seats : Seats) (
   -- it is read by a reader that hears it so
   pub readers : (k : ℕ) (r : Reader) → input_at unit k ≡ Some r → (i : Input) × (slice_get x.inputs k ≡ Some i) × ReadsFor seats.row i r
   -- and it is read while some of it is left
-  pub inputs : is_open block x done ≡ true → (k y : ℕ) (i : Input) → slice_get x.inputs k ≡ Some i → k < length unit.inputs → need block x i done < i.sound.timing.len → i.sound.row ≡ Some y → (r : Reader) × (input_at unit k ≡ Some r) × ReadsFor seats.row i r
+  pub inputs : is_open block x done ≡ true → (k y : ℕ) (i : Input) → slice_get x.inputs k ≡ Some i → k < length unit.inputs →
+      need block x i done < i.sound.timing.len → i.sound.row ≡ Some y → (r : Reader) × (input_at unit k ≡ Some r) × ReadsFor seats.row i r
   -- the others wait. The first of them follows the part that it was given last, unless another is in between
-  pub awaits : is_open block x done ≡ true → (stop : ℕ) × (unit.pending ≡ 0 → stop ≡ unit.last_stop) × Awaits code all seats u x unit (length unit.inputs + unit.pending) stop
+  pub awaits : is_open block x done ≡ true → (stop : ℕ) × (unit.pending ≡ 0 → stop ≡ unit.last_stop) ×
+      Awaits code all seats u x unit (length unit.inputs + unit.pending) stop
 
 -- ---- the whole heap
 
@@ -129,6 +131,7 @@ pub record Matched (code : Code) (all : List Row) (filled : Filled) (h : HeapSta
   -- no unit is a row that waits
   pub unborn : (u v : ℕ) (x y : Node Branch) → node_at h u ≡ Some x → node_at h v ≡ Some y → (seats.row v < seats.from u) ⊎ (seats.upto u ≤ seats.row v)
   -- two units' waiting rows are apart
-  pub disjoint : (u v : ℕ) (x y : Node Branch) → node_at h u ≡ Some x → node_at h v ≡ Some y → u ≢ v → (seats.upto u ≤ seats.from v) ⊎ (seats.upto v ≤ seats.from u)
+  pub disjoint : (u v : ℕ) (x y : Node Branch) → node_at h u ≡ Some x → node_at h v ≡ Some y → u ≢ v →
+      (seats.upto u ≤ seats.from v) ⊎ (seats.upto v ≤ seats.from u)
   -- nothing of a row that waits is filled
   pub unfilled : (u : ℕ) (x : Node Branch) → node_at h u ≡ Some x → (k : ℕ) → seats.from u ≤ k → k < seats.upto u → slice_index filled k ≡ 0

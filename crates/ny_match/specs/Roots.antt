@@ -10,5 +10,6 @@ use Rattle.ny_match.specs.Matched.{Seats}
 
 -- Only an open channel is read from outside, where its next block begins, and each open channel is
 pub record Roots (all : List Row) (filled : Filled) (h : HeapState Branch) (seats : Seats) : Type 0 where
-  pub outside : (v j : ℕ) → 0 < marks_at h v j → IsRoot h.block (row_at all (seats.row v)) (slice_index filled (seats.row v)) × (j ≡ slice_index filled (seats.row v))
+  pub outside : (v j : ℕ) → 0 < marks_at h v j → IsRoot h.block (row_at all (seats.row v)) (slice_index filled (seats.row v))
+      × (j ≡ slice_index filled (seats.row v))
   pub there : (c : ℕ) → IsRoot h.block (row_at all c) (slice_index filled c) → (v : ℕ) × (0 < marks_at h v (slice_index filled c)) × (seats.row v ≡ c)

@@ -33,7 +33,8 @@ pub record Rests (code : Code) (rows : List Row) (f : Filled) (h : HeapState Bra
   pub enough : IsEnough h.block rows f
 
 -- What a walk leaves that begins at unit u: it filled these rows, and each channel, and each unit that stands higher than u, is the row that it was
-pub record WalksAs (code : Code) (tall : ℕ → ℕ) (rows : List Row) (f : Filled) (old new : HeapState Branch) (seats : Seats) (u : ℕ) (fills : Fills) : Type 0 where
+pub record WalksAs (code : Code) (tall : ℕ → ℕ) (rows : List Row) (f : Filled) (old new : HeapState Branch) (seats : Seats)
+    (u : ℕ) (fills : Fills) : Type 0 where
   pub later : Seats
   pub matched : Matched code rows fills.filled new later
   pub counts : Counts rows f fills.order old new

@@ -23,5 +23,8 @@ pub fn evaluation_laws()
     ensures evaluates { (code : Code) (n : ℕ) → IsOrdered code → KeepsFree code → KeepsMade code → IsMatching code (Evaluates code n) }
     // So it is from the beginning: where all that a program plays was evaluated in a heap without units, and made channels, the units are the
     // rows of the plan, of which nothing is filled, and the channels are the plan's.
-    ensures opens { (code : Code) (n : ℕ) (rate : Rate) (old mid new : HeapState Branch) (ps ss : List Sound) → IsOrdered code → KeepsFree code → KeepsMade code → HeapLaws old → ((v : ℕ) → node_at old v ≡ None) → Plays code n code.play.0 (opening rate) [] old mid ps → ChannelsTurn rate ps mid new ss → (seats : Seats) × Matched code (plan code rate).rows (nothing_filled (plan code rate).rows) new seats × AreSounds seats.row ss (plan code rate).channels }
+    ensures opens { (code : Code) (n : ℕ) (rate : Rate) (old mid new : HeapState Branch) (ps ss : List Sound) → IsOrdered code → KeepsFree code →
+        KeepsMade code → HeapLaws old → ((v : ℕ) → node_at old v ≡ None) → Plays code n code.play.0 (opening rate) [] old mid ps →
+        ChannelsTurn rate ps mid new ss → (seats : Seats) × Matched code (plan code rate).rows (nothing_filled (plan code rate).rows) new seats ×
+        AreSounds seats.row ss (plan code rate).channels }
 {}

@@ -25,5 +25,8 @@ pub fn keep_law(program: &Program)
 /// A part that falls due (`docs/DEFINITIONS.md`, "The match"): it makes the rows that waited for it and is the next input of its row. Every
 /// unit that was there is the row that it was, and no block is filled.
 pub fn reveal_law()
-    ensures reveals { (code : Code) → IsOrdered code → KeepsFree code → KeepsMade code → (all : List Row) (f : Filled) (old new : HeapState Branch) (seats : Seats) (u : ℕ) → HeapLaws old → PartTurn code old u new → Matched code all f old seats → (later : Seats) × Matched code all f new later × ((v : ℕ) (x : Node Branch) → node_at old v ≡ Some x → later.row v ≡ seats.row v) × SameCounts old new }
+    ensures reveals { (code : Code) → IsOrdered code → KeepsFree code → KeepsMade code →
+        (all : List Row) (f : Filled) (old new : HeapState Branch) (seats : Seats) (u : ℕ) → HeapLaws old → PartTurn code old u new →
+        Matched code all f old seats → (later : Seats) × Matched code all f new later ×
+        ((v : ℕ) (x : Node Branch) → node_at old v ≡ Some x → later.row v ≡ seats.row v) × SameCounts old new }
 {}

@@ -100,7 +100,8 @@ fn gather_frames(channels: usize, count: usize, buffers: &mut Buffers)
     requires room { HasRoom channels buffers.old.block buffers.old }
     requires count { count ≤ buffers.old.block }
     requires free { buffers.old.gathered + 2 * (channels * buffers.old.block) ≤ length buffers.old.bytes.items }
-    ensures gathers { gathered_in buffers.new ≡ gathered_in buffers.old ++ flat_map frame_of (map (row channels buffers.old.block buffers.old.samples.items) (range_with_len 0 count)) }
+    ensures gathers { gathered_in buffers.new ≡ gathered_in buffers.old ++
+        flat_map frame_of (map (row channels buffers.old.block buffers.old.samples.items) (range_with_len 0 count)) }
     ensures size { HasRoom channels buffers.old.block buffers.new }
 {
     take_frames(
@@ -119,7 +120,8 @@ fn gather_frames(channels: usize, count: usize, buffers: &mut Buffers)
 fn gather_samples(count: usize, buffers: &mut Buffers)
     requires count { count ≤ length buffers.old.samples.items }
     requires free { buffers.old.gathered + 2 * count ≤ length buffers.old.bytes.items }
-    ensures gathers { (channels : ℕ) → channels ≡ 1 → gathered_in buffers.new ≡ gathered_in buffers.old ++ flat_map frame_of (map (row channels buffers.old.block buffers.old.samples.items) (range_with_len 0 count)) }
+    ensures gathers { (channels : ℕ) → channels ≡ 1 → gathered_in buffers.new ≡ gathered_in buffers.old ++
+        flat_map frame_of (map (row channels buffers.old.block buffers.old.samples.items) (range_with_len 0 count)) }
     ensures size { (channels block : ℕ) → HasRoom channels block buffers.old → HasRoom channels block buffers.new }
 {
     let samples = &buffers.samples.as_slice()[..count];
@@ -132,7 +134,8 @@ fn gather(channels: usize, count: usize, buffers: &mut Buffers)
     requires room { HasRoom channels buffers.old.block buffers.old }
     requires count { count ≤ buffers.old.block }
     requires free { buffers.old.gathered + 2 * (channels * buffers.old.block) ≤ length buffers.old.bytes.items }
-    ensures gathers { gathered_in buffers.new ≡ gathered_in buffers.old ++ flat_map frame_of (map (row channels buffers.old.block buffers.old.samples.items) (range_with_len 0 count)) }
+    ensures gathers { gathered_in buffers.new ≡ gathered_in buffers.old ++
+        flat_map frame_of (map (row channels buffers.old.block buffers.old.samples.items) (range_with_len 0 count)) }
     ensures size { HasRoom channels buffers.old.block buffers.new }
 {
     if channels == 1 {
@@ -210,8 +213,12 @@ pub(crate) fn write_frames<H: Host>(
     ensures counts { NoneFell (H.state host.old) (H.state host.new) }
     ensures quiet { OnOk result (SameCounts (H.state host.old) (H.state host.new)) }
     ensures cause { OnErr result (Rose (H.state host.old).writes (H.state host.new).writes) }
-    ensures whole { OnOk result (Gathered (gathered_in buffers.old ++ flat_map frame_of (map (row channels buffers.old.block buffers.old.samples.items) (range_with_len 0 count))) buffers.new (H.state host.old) (H.state host.new)) }
-    ensures part { OnErr result (WrotePart (gathered_in buffers.old ++ flat_map frame_of (map (row channels buffers.old.block buffers.old.samples.items) (range_with_len 0 count))) (H.state host.old) (H.state host.new)) }
+    ensures whole { OnOk result (Gathered (gathered_in buffers.old ++
+        flat_map frame_of (map (row channels buffers.old.block buffers.old.samples.items) (range_with_len 0 count)))
+        buffers.new (H.state host.old) (H.state host.new)) }
+    ensures part { OnErr result (WrotePart (gathered_in buffers.old ++
+        flat_map frame_of (map (row channels buffers.old.block buffers.old.samples.items) (range_with_len 0 count)))
+        (H.state host.old) (H.state host.new)) }
     ensures output { (H.state host.new).output ≡ (H.state host.old).output }
     ensures files { (H.state host.new).files ≡ (H.state host.old).files }
     ensures printed { (H.state host.new).printed ≡ (H.state host.old).printed }

@@ -89,7 +89,8 @@ fn end_round<H: Host>(
     requires open { (H.state host.old).output ≡ Some file }
     requires room { buffers.old.gathered ≤ length buffers.old.bytes.items }
     ensures counts { NoneFell (H.state host.old) (H.state host.new) }
-    ensures fault { (start e : EngineState) (rounds : ℕ) → IsPullFault start e rounds fault → IsRoundFault start e rounds buffers.old (H.state host.old) (H.state host.new) result }
+    ensures fault { (start e : EngineState) (rounds : ℕ) → IsPullFault start e rounds fault →
+        IsRoundFault start e rounds buffers.old (H.state host.old) (H.state host.new) result }
     ensures part { WrotePart (gathered_in buffers.old) (H.state host.old) (H.state host.new) }
     ensures files { (H.state host.new).files ≡ (H.state host.old).files }
     ensures printed { (H.state host.new).printed ≡ (H.state host.old).printed }
