@@ -109,7 +109,7 @@ module _ (code : Code) (rate : Rate) (opened : List Sound) (done : List (Option 
           (given_up_channel code old new (done ++ Some s ∷ map Some rest) (samples_of code rate) (zeros opened) (zeros opened) (length done) s so.playing here laws trimmed keeps);
       given = λ d o at. by_place d o (last_got done None d o at);
       seated = subst (λ (os : List (Option Sound)). AreSeated code rate new os (zeros opened)) (set_first done (Some s) None (map Some rest))
-          (left_seated code rate old new (done ++ Some s ∷ map Some rest) (zeros opened) (length done) s here over_counts.block so.seated None (none, trimmed));
+          (left_seated code rate old new (done ++ Some s ∷ map Some rest) (zeros opened) (length done) s here over_counts so.seated None (none, trimmed));
     }
       where
         over : length (slice_index_or (channels code rate) (length done) (silence rate)).samples ≤ 0

@@ -114,7 +114,7 @@ zero_at [] c = refl
 zero_at (x ∷ xs) zero = refl
 zero_at (x ∷ xs) (suc c) = zero_at xs c
 
-zero_sum : (xs : List Sound) → sum (zeros xs) ≡ 0
+pub zero_sum : {A : Type 0} (xs : List A) → sum (map {B = ℕ} (λ (x : A). 0) xs) ≡ 0
 zero_sum [] = refl
 zero_sum (x ∷ xs) = zero_sum xs
 

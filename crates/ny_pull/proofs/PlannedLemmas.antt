@@ -1,5 +1,5 @@
 -- What an engine's heap is by the plan of its program, between pulls and over a walk.
-use Rattle.std.proofs.Common.{◌≡◌, ℕ, zero, suc, ◌+◌, ◌*◌, ◌<◌, ◌≤◌, min, Bool, true, false, not, cond, nat_lt, IsTrue, IsSomeAnd, List, [], ◌∷◌, length, Option, None, Some, slice_get, refl, sym, ap, subst, ◌∙◌, arith}
+use Rattle.std.proofs.Common.{◌≡◌, ℕ, zero, suc, ◌+◌, ◌*◌, ◌<◌, ◌≤◌, min, Bool, true, false, not, cond, nat_lt, IsTrue, IsSomeAnd, List, [], ◌∷◌, length, Option, None, Some, slice_get, refl, sym, ap, subst, ◌∙◌, arith, ◌-◌, ◌^◌, sum}
 use Rattle.std.specs.Prelude.{◌==◌, slice_index, slice_index_or}
 use Rattle.std.specs.Option.{option_map, option_map_or}
 use Rattle.std.specs.List.{list_any}
@@ -24,7 +24,7 @@ use Rattle.ny_plan.specs.Liveness.{live, live_of_kinds}
 use Rattle.ny_plan.specs.Lines.{pulled as pulled_once}
 use Rattle.ny_plan.specs.Peak.{live_before}
 use Rattle.ny_plan.proofs.OrderLemmas.{plan_ordered}
-use Rattle.ny_plan.proofs.OrderLaw.{pull_leads, counts_size, counts_enough, counts_pulled}
+use Rattle.ny_plan.proofs.OrderLaw.{pull_leads, pull_adds, counts_size, counts_enough, counts_pulled}
 use Rattle.ny_trace.specs.Heights.{IsTall}
 use Rattle.ny_trace.specs.Laws.{KeepsFree}
 use Rattle.ny_walk.specs.Walk.{Walks}
@@ -32,7 +32,7 @@ use Rattle.ny_walk.specs.Stops.{StopsAtFull}
 use Rattle.ny_match.specs.Keeps.{KeepsMade}
 use Rattle.ny_match.specs.Matched.{Seats, Matched}
 use Rattle.ny_match.specs.Channels.{AreReading}
-use Rattle.ny_match.specs.Counting.{Counts}
+use Rattle.ny_match.specs.Counting.{Counts, more_fills}
 use Rattle.ny_match.specs.Walking.{Rests, WalksAs}
 use Rattle.ny_match.proofs.KindLemmas.{has_kinds}
 use Rattle.ny_match.proofs.LastRowLemmas.{plan_has_channels}
@@ -67,6 +67,13 @@ unfolding fills
 fills_channel block p f c x row still =
     ap (λ b. cond b (no_fills f) (option_map_or (λ x. fill_row block p.rows (x + 1) x f) (channel_at p c) (no_fills f))) (opens_channel block p f c x row still)
     ∙ ap (λ (o : Option ℕ). option_map_or (λ x. fill_row block p.rows (x + 1) x f) o (no_fills f)) row
+
+more_filled : (n : ℕ) (xs : List ℕ) → n ≤ 2 ^ 64 - 1 → more_fills n xs ≡ min (n + length xs) (2 ^ 64 - 1)
+more_filled n [] low = omega (arith, low)
+more_filled n (x ∷ xs) low = more_filled (min (n + 1) (2 ^ 64 - 1)) xs (omega arith) ∙ one_more n (length xs)
+  where
+    one_more : (n k : ℕ) → min (min (n + 1) (2 ^ 64 - 1) + k) (2 ^ 64 - 1) ≡ min (n + suc k) (2 ^ 64 - 1)
+    one_more n k = omega arith
 
 -- ---- between two pulls
 
@@ -192,6 +199,11 @@ module _ (code : Code) (rate : Rate) (h : HeapState Branch) (os : List (Option S
       pub walk_counts : (deep : ℕ) (us : List ℕ) (mid : HeapState Branch) → Walks code deep h u us mid → Counts rows F (Fills.order (fills h.block (plan code rate) F c)) h mid
       walk_counts deep us mid walk = subst (λ (q : Fills). Counts rows F (Fills.order q) h mid) (sym fills_are) (walks_as deep us mid walk).counts
 
+      fills_more : min (h.fills + length (Fills.order (fills h.block (plan code rate) F c))) (2 ^ 64 - 1) ≡ min (sum (counts h.block (plan code rate) (pulled_once c pulled))) (2 ^ 64 - 1)
+      fills_more =
+          let adds = pull_adds h.block code rate pulled c playing.laws.positive pulled_count (opens_channel h.block (plan code rate) F c (row u) row_is (row_opens c u s at list)) in
+          omega (arith, seated.fills, adds)
+
       -- and the heap is then as the plan has it with one pull more
       pub walk_seated : (deep : ℕ) (us : List ℕ) (mid : HeapState Branch) → Walks code deep h u us mid → AreSeated code rate mid os (pulled_once c pulled)
       walk_seated deep us mid walk =
@@ -199,6 +211,9 @@ module _ (code : Code) (rate : Rate) (h : HeapState Branch) (os : List (Option S
           record {
             seats = w.later;
             matched = subst (λ b. Matched code rows (counts b (plan code rate) (pulled_once c pulled)) mid w.later) (sym w.counts.block) (subst (λ f. Matched code rows f mid w.later) fills_lead w.matched);
+            fills =
+                (walk_counts deep us mid walk).fills ∙ more_filled h.fills (Fills.order (fills h.block (plan code rate) F c)) (omega (arith, seated.fills)) ∙ fills_more
+                ∙ ap (λ b. min (sum (counts b (plan code rate) (pulled_once c pulled))) (2 ^ 64 - 1)) (sym w.counts.block);
             count = seated.count;
             names = λ k t r there here. seated.names k t r there here ∙ by_list w.later w.outside k t there (list_of t) refl;
             lens = seated.lens;

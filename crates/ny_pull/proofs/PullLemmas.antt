@@ -1,11 +1,13 @@
 -- What the plan tells of an engine between two pulls, and of a pull.
-use Rattle.std.proofs.Common.{◌≡◌, ℕ, ◌+◌, ◌-◌, ◌<◌, ◌≤◌, true, not, cond, List, [], length, Option, None, Some, slice_get, slice_index, slice_index_or, refl, sym, ap, subst, ◌∙◌, arith}
+use Rattle.std.proofs.Common.{◌≡◌, ℕ, ◌+◌, ◌-◌, ◌<◌, ◌≤◌, true, not, cond, List, [], length, Option, None, Some, slice_get, slice_index, slice_index_or, refl, sym, ap, subst, ◌∙◌, arith, map}
+use Rattle.std.specs.Prelude.{◌==◌}
 use Rattle.std.specs.Option.{option_map_or}
-use Rattle.std.specs.List.{AllByRecursion}
+use Rattle.std.specs.List.{range_with_len, AllByRecursion}
 use Rattle.ny_num.specs.declared.rate.Rate.{Rate}
 use Rattle.ny_check.specs.Code.{Code, IsOrdered}
 use Rattle.ny_check.specs.Heights.{height_of, IsTall}
 use Rattle.ny_heap.specs.Heap.{HeapState, list_of, place_of, open_unit, live_of}
+use Rattle.ny_heap.specs.Kinds.{place_of_kind, live_by_kind}
 use Rattle.ny_heap.specs.Reach.{IsTrimmed}
 use Rattle.ny_heap.specs.Steps.{without_sound, advanced}
 use Rattle.ny_heap.specs.declared.sound.Sound.{Sound}
@@ -18,6 +20,7 @@ use Rattle.ny_plan.specs.Plan.{plan}
 use Rattle.ny_plan.specs.Need.{Filled, is_open as is_open_row}
 use Rattle.ny_plan.specs.Fills.{Fills, no_fills, fill_row, channel_at, has_ended, fills}
 use Rattle.ny_plan.specs.Peak.{live_before}
+use Rattle.ny_plan.specs.Lines as lines
 use Rattle.ny_trace.specs.Laws.{KeepsFree}
 use Rattle.ny_walk.specs.Walk.{Walks}
 use Rattle.ny_walk.specs.Stops.{StopsAtFull}
@@ -30,7 +33,7 @@ use Rattle.ny_pull.specs.declared.fault.PullFault.{PullFault}
 use Rattle.ny_pull.specs.Engine.{EngineState, with_pull, Leaves}
 use Rattle.ny_pull.specs.Inside.{samples_of, IsEngineInside}
 use Rattle.ny_pull.specs.Places.{ReadsAt}
-use Rattle.ny_pull.specs.Planned.{FollowsPlan, FillsAsPlanned, FindsAllLive}
+use Rattle.ny_pull.specs.Planned.{filled_of, FollowsPlan, FillsAsPlanned, FindsAllLive}
 use Rattle.ny_pull.specs.Seated.{AreSeated}
 use Rattle.ny_pull.proofs.EngineLemmas.{state, playing, opens_at}
 use Rattle.ny_pull.proofs.PlannedLemmas.{there_is, F, over, live_is, live_of_kinds_is, walk_counts, walk_seated, stop_finds}
@@ -75,7 +78,11 @@ module _ (code : Code) (rate : Rate) (h : HeapState Branch) (os : List (Option S
   follows e is = subst FollowsPlan is (record {
     live = live_is code rate h os pulled plays inside.given seats_now;
     by_kind = live_of_kinds_is code rate h os pulled plays inside.given seats_now;
+    fills = seats_now.fills;
   })
+
+  pub kinds_follow : (e : EngineState) → state code rate os pulled spent h ≡ e → live_by_kind e.heap ≡ lines.live_by_kind e.heap.block (plan e.code e.rate).rows (filled_of e)
+  kinds_follow e is = λ i. map (λ k. (follows e is).by_kind (λ kind. place_of_kind kind == k) i) (range_with_len 0 18)
 
   -- ---- a channel that is over
 
@@ -125,7 +132,7 @@ module _ (code : Code) (rate : Rate) (h : HeapState Branch) (os : List (Option S
       -- and its units are the plan's rows again once that block was read
       pub seated_now : (new : HeapState Branch) (later : List (Option Sound)) (most n : ℕ) → ReadsAt mid new os later c most n → AreSeated code rate new later (with_pull pulled c)
       seated_now new later most n reads =
-          read_seated code rate mid new os later (with_pull pulled c) c most n reads (first_counts mid new os later c most n reads).block (read_counts mid new os later c most n reads).block
+          read_seated code rate mid new os later (with_pull pulled c) c most n reads (first_counts mid new os later c most n reads) (read_counts mid new os later c most n reads)
           (walk_seated code rate h os pulled plays inside.given seats_now c u found.0 found.1 opens.list opens.unit ordered free made (heights_enough code (height_of code) tall) deep us mid walk)
 
     -- a fill that finds no block free finds all of them live

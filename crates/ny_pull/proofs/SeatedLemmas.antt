@@ -1,5 +1,5 @@
 -- The channels stay those of the plan: at the opening, and over what is read or given up.
-use Rattle.std.proofs.Common.{◌≡◌, inl, inr, ℕ, zero, suc, List, [], ◌∷◌, length, map, Option, None, Some, slice_get, slice_set, refl, sym, ap, subst, ◌∙◌, arith}
+use Rattle.std.proofs.Common.{◌≡◌, inl, inr, ℕ, zero, suc, List, [], ◌∷◌, length, map, Option, None, Some, slice_get, slice_set, refl, sym, ap, subst, ◌∙◌, arith, ◌-◌, ◌^◌, min, sum}
 use Rattle.std.specs.Option.{option_map}
 use Rattle.std.proofs.lemmas.Bool.{cases_eq}
 use Rattle.std.proofs.lemmas.List.{length-set}
@@ -10,6 +10,7 @@ use Rattle.ny_heap.specs.Heap.{HeapState, list_of}
 use Rattle.ny_heap.specs.Reach.{IsTrimmed}
 use Rattle.ny_heap.specs.Steps.{Passes, advanced}
 use Rattle.ny_heap.specs.declared.sound.Sound.{Sound}
+use Rattle.ny_hands.specs.Counts.{SameCounts}
 use Rattle.ny_hands.specs.declared.branch.Branch.{Branch}
 use Rattle.ny_hands.proofs.OptionLemmas.{some_same}
 use Rattle.ny_plan.specs.Rows.{RowSound, Plan}
@@ -33,7 +34,7 @@ use Rattle.ny_pull.specs.Engine.{Leaves}
 use Rattle.ny_pull.specs.Seated.{AreSeated}
 use Rattle.ny_pull.specs.Places.{ReadsAt}
 use Rattle.ny_pull.proofs.EngineLemmas.{set_twice, samples_at}
-use Rattle.ny_pull.proofs.OpenLemmas.{as_many, zeros_by}
+use Rattle.ny_pull.proofs.OpenLemmas.{as_many, zeros_by, zero_sum}
 
 -- ---- names
 
@@ -49,14 +50,15 @@ named_put p row os c s o at same named k t r there here = elim (cases_eq k c) [
   | inr other ↦ named k t r (sym (get_set_other os c k o other) ∙ there) here
 ]
 
-module _ (code : Code) (rate : Rate) (old new : HeapState Branch) (os : List (Option Sound)) (pulled : List ℕ) (c : ℕ) (s : Sound) (at : slice_get os c ≡ Some (Some s)) (block : new.block ≡ old.block) (seated : AreSeated code rate old os pulled) where
+module _ (code : Code) (rate : Rate) (old new : HeapState Branch) (os : List (Option Sound)) (pulled : List ℕ) (c : ℕ) (s : Sound) (at : slice_get os c ≡ Some (Some s)) (same : SameCounts old new) (seated : AreSeated code rate old os pulled) where
   -- so the channels stay those of the plan
   put_seated : (o : Option Sound) → ((t : Sound) → o ≡ Some t → list_of t ≡ list_of s) → Matched code (plan code rate).rows (counts old.block (plan code rate) pulled) new seated.seats → AreSeated code rate new (slice_set os c o) pulled
-  put_seated o same matched = record {
+  put_seated o alike matched = record {
     seats = seated.seats;
-    matched = subst (λ b. Matched code (plan code rate).rows (counts b (plan code rate) pulled) new seated.seats) (sym block) matched;
+    matched = subst (λ b. Matched code (plan code rate).rows (counts b (plan code rate) pulled) new seated.seats) (sym same.block) matched;
+    fills = same.fills ∙ seated.fills ∙ ap (λ b. min (sum (counts b (plan code rate) pulled)) (2 ^ 64 - 1)) (sym same.block);
     count = length-set os c o ∙ seated.count;
-    names = named_put (plan code rate) seated.seats.row os c s o at same seated.names;
+    names = named_put (plan code rate) seated.seats.row os c s o at alike seated.names;
     lens = seated.lens;
   }
 
@@ -78,10 +80,11 @@ module _ (code : Code) (rate : Rate) (old new : HeapState Branch) (os : List (Op
       (subst (λ (q : HeapState Branch). Matched code (plan code rate).rows (counts old.block (plan code rate) pulled) q seated.seats) (sym leaves.2) seated.matched)
 
 -- after a block of a channel was read
-pub read_seated : (code : Code) (rate : Rate) (mid new : HeapState Branch) (os later : List (Option Sound)) (pulled : List ℕ) (c most n : ℕ) (reads : ReadsAt mid new os later c most n) → reads.read.block ≡ mid.block → new.block ≡ mid.block → AreSeated code rate mid os pulled → AreSeated code rate new later pulled
-read_seated code rate mid new os later pulled c most n reads block block_new seated =
-    let read = passed_seated code rate mid reads.read os pulled c reads.sound reads.was block seated reads.to n reads.passes reads.reads in
-    let left = left_seated code rate reads.read new (slice_set os c (Some reads.to)) pulled c reads.to (get_set_same os c (Some reads.to) (within os c reads.sound reads.was)) (block_new ∙ sym block) read reads.left reads.leaves in
+pub read_seated : (code : Code) (rate : Rate) (mid new : HeapState Branch) (os later : List (Option Sound)) (pulled : List ℕ) (c most n : ℕ) (reads : ReadsAt mid new os later c most n) → SameCounts mid reads.read → SameCounts mid new → AreSeated code rate mid os pulled → AreSeated code rate new later pulled
+read_seated code rate mid new os later pulled c most n reads first all seated =
+    let rest : SameCounts reads.read new = record { pool = all.pool ∙ sym first.pool; block = all.block ∙ sym first.block; fills = all.fills ∙ sym first.fills; peak = all.peak ∙ sym first.peak } in
+    let read = passed_seated code rate mid reads.read os pulled c reads.sound reads.was first seated reads.to n reads.passes reads.reads in
+    let left = left_seated code rate reads.read new (slice_set os c (Some reads.to)) pulled c reads.to (get_set_same os c (Some reads.to) (within os c reads.sound reads.was)) rest read reads.left reads.leaves in
     subst (λ qs. AreSeated code rate new qs pulled) (set_twice os c (Some reads.to) reads.left ∙ sym reads.now) left
 
 -- ---- at the opening
@@ -99,16 +102,18 @@ sound_at row (s ∷ ss) [] k r are at = absurd are
 sound_at row (s ∷ ss) (q ∷ rs) zero r are at = (s, refl, subst (IsSound row s) (some_same q r at) are.0)
 sound_at row (s ∷ ss) (q ∷ rs) (suc k) r are at = sound_at row ss rs k r are.1 at
 
-module _ (code : Code) (ordered : IsOrdered code) (free : KeepsFree code) (keeps : KeepsMade code) (rate : Rate) (old h : HeapState Branch) (opened : List Sound) (empty : IsEmpty old) (trace : EvaluatesChannels code rate old h opened) (are : AreOpened code rate h opened) where
+module _ (code : Code) (ordered : IsOrdered code) (free : KeepsFree code) (keeps : KeepsMade code) (rate : Rate) (old h : HeapState Branch) (opened : List Sound) (empty : IsEmpty old) (trace : EvaluatesChannels code rate old h opened) (are : AreOpened code rate h opened) (unfilled : h.fills ≡ 0) where
   start : (seats : Seats) × Matched code (plan code rate).rows (nothing_filled (plan code rate).rows) h seats × AreSounds seats.row opened (plan code rate).channels
   start = opened_matching code ordered free (any_match code ordered free keeps (λ m. has_kinds code m)) trace.deep rate old trace.mid h trace.played opened empty.laws empty.none trace.plays trace.channels
+
+  none_counted : nothing_filled (plan code rate).rows ≡ counts h.block (plan code rate) (zeros opened)
+  none_counted = sym (nothing_counted code rate h.block are.plays.laws.positive) ∙ ap (counts h.block (plan code rate)) (zeros_by (plan code rate).channels opened (sym (many_sounds start.0.row opened (plan code rate).channels start.2)))
 
   pub opened_seated : AreSeated code rate h (map (λ (s : Sound). Some s) opened) (zeros opened)
   opened_seated = record {
     seats = start.0;
-    matched = subst (λ f. Matched code (plan code rate).rows f h start.0)
-        (sym (nothing_counted code rate h.block are.plays.laws.positive) ∙ ap (counts h.block (plan code rate)) (zeros_by (plan code rate).channels opened (sym (many_sounds start.0.row opened (plan code rate).channels start.2))))
-        start.1;
+    matched = subst (λ f. Matched code (plan code rate).rows f h start.0) none_counted start.1;
+    fills = unfilled ∙ sym (ap (λ (ns : List ℕ). min (sum ns) (2 ^ 64 - 1)) (sym none_counted) ∙ ap (λ n. min n (2 ^ 64 - 1)) (zero_sum (plan code rate).rows));
     count = as_many (λ (s : Sound). Some s) opened ∙ many_sounds start.0.row opened (plan code rate).channels start.2;
     names = λ k s r at here.
         let q = sound_at start.0.row opened (plan code rate).channels k r start.2 here in

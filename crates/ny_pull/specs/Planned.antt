@@ -1,5 +1,5 @@
 -- What an engine does by the plan of its program: how many blocks are filled and live after its pulls, and which rows a pull fills.
-use Rattle.std.specs.Prelude.{◌≡◌, ℕ, ◌<◌, ◌==◌, Bool, true, List}
+use Rattle.std.specs.Prelude.{◌≡◌, ℕ, ◌-◌, ◌^◌, ◌<◌, ◌==◌, min, sum, Bool, true, List}
 use Rattle.std.specs.List.{AllByRecursion, list_any}
 use Rattle.ny_heap.specs.Heap.{live_of}
 use Rattle.ny_heap.specs.Kinds.{UnitKind, kept_of_kinds}
@@ -17,10 +17,12 @@ use Rattle.ny_pull.specs.Engine.{EngineState}
 abbrev pub filled_of : EngineState → Filled
 filled_of e = counts e.heap.block (plan e.code e.rate) e.pulled
 
--- as many blocks are taken as are live by the plan, and as many of the units of some kinds as of the rows of these kinds
+-- as many blocks are taken as are live by the plan, and as many of the units of some kinds as of the rows of these kinds; and as many fills are
+-- counted as there are blocks filled, up to the end of the count
 pub record FollowsPlan (e : EngineState) : Type 0 where
   pub live : live_of e.heap ≡ live e.heap.block (plan e.code e.rate).rows (filled_of e)
   pub by_kind : (kinds : UnitKind → Bool) → kept_of_kinds kinds e.heap 0 e.heap.nodes ≡ live_of_kinds kinds e.heap.block (plan e.code e.rate).rows (filled_of e)
+  pub fills : e.heap.fills ≡ min (sum (filled_of e)) (2 ^ 64 - 1)
 
 -- ---- a pull
 

@@ -1,5 +1,5 @@
 -- The heap of an engine by the plan of its program.
-use Rattle.std.specs.Prelude.{◌≡◌, ℕ, List, Option, Some, length, slice_get, slice_index_or}
+use Rattle.std.specs.Prelude.{◌≡◌, ℕ, ◌-◌, ◌^◌, min, sum, List, Option, Some, length, slice_get, slice_index_or}
 use Rattle.std.specs.Option.{option_map}
 use Rattle.ny_num.specs.declared.rate.Rate.{Rate}
 use Rattle.ny_num.specs.Sound.{silence}
@@ -20,4 +20,6 @@ pub record AreSeated (code : Code) (rate : Rate) (h : HeapState Branch) (sounds 
   pub matched : Matched code (plan code rate).rows (counts h.block (plan code rate) pulled) h seats
   pub count : length sounds ≡ length (plan code rate).channels
   pub names : (k : ℕ) (s : Sound) (r : RowSound) → slice_get sounds k ≡ Some (Some s) → slice_get (plan code rate).channels k ≡ Some r → r.row ≡ option_map seats.row (list_of s)
+  -- as many fills are counted as there are blocks, up to the end of the count
+  pub fills : h.fills ≡ min (sum (counts h.block (plan code rate) pulled)) (2 ^ 64 - 1)
   pub lens : (k : ℕ) (r : RowSound) → slice_get (plan code rate).channels k ≡ Some r → r.timing.len ≡ length (slice_index_or (channels code rate) k (silence rate)).samples

@@ -1,4 +1,4 @@
-ghost use Rattle.std.specs.Prelude.{◌≡◌, ◌≢◌, ℕ, ◌<◌, ◌≤◌, ◌↔◌, ◌++◌, [], ◌∷◌, ◌⊎◌, nat_lt, if◌then◌else◌, IsTrue, true, false, None, Some, Ok, Err, IfSome, IfOk, IfErr, OnOk, OnErr, is_err, length, drop, take, sum, map, List, slice_get, slice_index, Option};
+ghost use Rattle.std.specs.Prelude.{◌≡◌, ◌≢◌, ℕ, ◌-◌, ◌^◌, min, ◌<◌, ◌≤◌, ◌↔◌, ◌++◌, [], ◌∷◌, ◌⊎◌, nat_lt, if◌then◌else◌, IsTrue, true, false, None, Some, Ok, Err, IfSome, IfOk, IfErr, OnOk, OnErr, is_err, length, drop, take, sum, map, List, slice_get, slice_index, Option};
 ghost use Rattle.std.specs.Option.{option_map};
 ghost use Rattle.ny_num.specs.Grid.{last_index};
 ghost use Rattle.ny_check.specs.Channels.{channels, longest};
@@ -14,6 +14,7 @@ ghost use Rattle.ny_hands.specs.Counts.{SameCounts};
 ghost use Rattle.ny_eval.specs.Opened.{AreOpened, zeros};
 ghost use Rattle.ny_plan.specs.Plan.{plan};
 ghost use Rattle.ny_plan.specs.Liveness.{live as live_by_plan};
+ghost use Rattle.ny_plan.specs.Lines.{live_by_kind as live_kinds_by_plan};
 ghost use Rattle.ny_pull.specs.Seated.{AreSeated};
 ghost use Rattle.ny_pull.specs.Planned.{filled_of, FollowsPlan, FillsAsPlanned, FindsAllLive};
 ghost use Rattle.ny_pull.specs.Places.{unit_at, ReadsAt, longest_of, HaveBegun};
@@ -301,7 +302,8 @@ impl Engine {
     /// How many blocks of the pool are taken, by the kind of the unit that computed them, in the order of
     /// `Heap::live_by_kind`.
     pub fn live_by_kind(&self) -> [u32; 18]
-        ensures { result ≡ live_by_kind self.now.heap }
+        ensures kinds { result ≡ live_by_kind self.now.heap }
+        ensures planned { self.now.spent ≡ None → result ≡ live_kinds_by_plan self.now.heap.block (plan self.now.code self.now.rate).rows (filled_of self.now) }
     {
         self.heap.live_by_kind()
     }
@@ -323,7 +325,8 @@ impl Engine {
 
     /// How many blocks were filled, or 2^64 - 1 where that is greater.
     pub fn fills(&self) -> u64
-        ensures { result ≡ self.now.heap.fills }
+        ensures fills { result ≡ self.now.heap.fills }
+        ensures planned { self.now.spent ≡ None → result ≡ min (sum (filled_of self.now)) (2 ^ 64 - 1) }
     {
         self.heap.fills()
     }

@@ -59,3 +59,4 @@ pub begun-requires-clause-seated : goal.begun-requires-clause-seated
 begun-requires-clause-seated c =
     let laws = c.program_laws.ensures in
     opened_seated c.args.program laws.ordered laws.free laws.made c.args.rate _ _ _ (record { laws = c.in_ok-heap.ensures.laws; none = nothing_in c.in_ok-heap.heap (ap (λ (h : HeapState Branch). h.nodes) c.in_ok-heap.ensures.opened) }) c.in_ok-sounds.ensures.traced c.in_ok-sounds.ensures.opened
+    (c.in_ok-sounds.ensures.counts.fills ∙ ap (λ (h : HeapState Branch). h.fills) c.in_ok-heap.ensures.opened)
