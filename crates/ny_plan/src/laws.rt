@@ -56,7 +56,8 @@ pub fn order_law()
 pub fn live_law<B>(heap: &Heap<B>)
     ensures all { (rows : List Row) (filled : Filled) (row : ℕ → ℕ) → AllRows rows → Matches heap.now.block rows filled heap.now row → live_of heap.now ≡ live heap.now.block rows filled }
     ensures by_kind { (kinds : UnitKind → Bool) (rows : List Row) (filled : Filled) (row : ℕ → ℕ) → AllRows rows → Matches heap.now.block rows filled heap.now row → kept_of_kinds kinds heap.now 0 heap.now.nodes ≡ live_of_kinds kinds heap.now.block rows filled }
-    ensures kinds { (rows : List Row) (filled : Filled) (row : ℕ → ℕ) → AllRows rows → Matches heap.now.block rows filled heap.now row → live_by_kind heap.now ≡ lines.live_by_kind heap.now.block rows filled }
+    ensures kinds { (rows : List Row) (filled : Filled) (row : ℕ → ℕ) → AllRows rows → Matches heap.now.block rows filled heap.now row →
+        live_by_kind heap.now ≡ lines.live_by_kind heap.now.block rows filled }
 {
     let _free = heap.free();
 }
