@@ -39,4 +39,4 @@ IsMatching code D =
     Matched code all filled old seats → AreNames seats.row names given →
     IsFirst (After.rows (made code e env given rows)) all → IsFree filled old seats (length rows) (length (After.rows (made code e env given rows))) →
     (b : Born code all filled old new seats (length rows) (length (After.rows (made code e env given rows)))) ×
-        IsSound b.later.row s (After.gives (made code e env given rows))
+    IsSound b.later.row s (After.gives (made code e env given rows))
