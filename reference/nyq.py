@@ -1574,40 +1574,57 @@ def read_number(word):
     return int(word)
 
 
+def usage():
+    raise End(USAGE, "fault: usage")
+
+
 class Command:
-    """The words of a command that is built. `later` takes the words of `live` and `gen` as well."""
+    """The words of a command that is built. `later` takes the words of `live` and `gen` as well.
+
+    After the command come its names, each once and in their order, and anywhere among them its options: `--pool 9` or
+    `--pool=9`. A word that begins with `-`, other than `-` itself, is an option, and no value of one. From `--` on all
+    words are names. An empty word is no name."""
+
+    NAMES = {"render": 2, "check": 1, "live": 1, "gen": 2}
+    VALUED = {"render": ["--pool", "--block", "--rate"], "live": ["--pool", "--block", "--rate", "--order"]}
+    FLAGS = {"live": ["--kinds"]}
 
     def __init__(self, words, later=False):
-        places = {"render": 2, "check": 1}
-        if later:
-            places.update({"live": 1, "gen": 2})
-        if not words or words[0] not in places or len(words) < 1 + places[words[0]]:
-            raise End(USAGE, "fault: usage")
-        self.name, self.places = words[0], words[1:1 + places[words[0]]]
-        self.options, self.order, self.kinds = {}, None, False
-        rest = words[1 + len(self.places):]
-        while rest:
-            rest = self.option(rest)
+        if not words or words[0] not in (("render", "check", "live", "gen") if later else ("render", "check")):
+            usage()
+        self.name, self.places, self.given = words[0], [], {}
+        rest = words[1:]
+        while rest and rest[0] != "--":
+            rest = self.word(rest)
+        self.places += rest[1:]
+        if len(self.places) != self.NAMES[self.name] or "" in self.places:
+            usage()
+        self.order, self.kinds = self.given.pop("--order", None), "--kinds" in self.given
+        if self.order is not None and not (1 <= len(self.order) <= 64 and all(c in "0123456789" for c in self.order)):
+            usage()
+        self.options = {option: read_number(word) for option, word in self.given.items() if option in ALLOWED}
+        if any(number not in ALLOWED[option] for option, number in self.options.items()):
+            usage()
         if self.name == "gen":
             self.places = [read_number(word) for word in self.places]
             if self.places[0] > 4294967295 or not 2 <= self.places[1] <= 20000:
-                raise End(USAGE, "fault: usage")
+                usage()
 
-    def option(self, rest):
-        if self.name == "live" and rest[0] == "--kinds" and not self.kinds:
-            self.kinds = True
+    def word(self, rest):
+        """Reads a name or an option, and gives the words after it."""
+        if rest[0] == "-" or not rest[0].startswith("-"):
+            self.places.append(rest[0])
             return rest[1:]
-        known = self.name in ("render", "live") and rest[0] in DEFAULTS and rest[0] not in self.options
-        if known and len(rest) > 1:
-            value = read_number(rest[1])
-            if value in ALLOWED[rest[0]]:
-                self.options[rest[0]] = value
-                return rest[2:]
-        if self.name == "live" and rest[0] == "--order" and self.order is None and len(rest) > 1:
-            if 1 <= len(rest[1]) <= 64 and all(c in "0123456789" for c in rest[1]):
-                self.order = rest[1]
-                return rest[2:]
-        raise End(USAGE, "fault: usage")
+        option, equals, value = rest[0].partition("=")
+        valued = option in self.VALUED.get(self.name, [])
+        if option in self.given or not valued and (equals or option not in self.FLAGS.get(self.name, [])):
+            usage()
+        if valued and not equals:
+            if len(rest) < 2 or rest[1] != "-" and rest[1].startswith("-"):
+                usage()
+            value, rest = rest[1], rest[1:]
+        self.given[option] = value
+        return rest[1:]
 
     def get(self, option):
         return self.options.get(option, DEFAULTS[option])

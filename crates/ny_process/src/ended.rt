@@ -2,7 +2,7 @@ ghost use Rattle.std.specs.Prelude.{◌≡◌, ◌⊎◌, Option, None, map, str
 ghost use Rattle.ny_pull.specs.Engine.{EngineState};
 ghost use Rattle.ny_top.specs.Outcome.{HasOutcome, code_of};
 ghost use Rattle.ny_top.specs.Ends.{EndsAs, is_whole};
-ghost use Rattle.ny_top.specs.Words.{read_words};
+ghost use Rattle.ny_words.specs.Words.{read_words};
 
 use ny_io::Host;
 use ny_top::{Status, run};
@@ -15,8 +15,8 @@ pub fn exit_code<H: Host>(alloc: Global, words: &[String], host: &mut H) -> u8
         × (IsTrue (is_whole status) → IfSome (H.state host.old).files (λ files.
         EndsAs (HasOutcome (map string_bytes words.now) files engine) status (H.state host.old) (H.state host.new))) }
 
-    // Words that are no command end with 2, or with 5 where the line can't be printed.
-    ensures usage { read_words (map string_bytes words.now) ≡ None → (result ≡ 2) ⊎ (result ≡ 5) }
+    // Words that are no command end with 2, with 5 where the line can't be printed, or with 9 where there was no memory to read them.
+    ensures usage { read_words (map string_bytes words.now) ≡ None → (result ≡ 2) ⊎ (result ≡ 5) ⊎ (result ≡ 9) }
 {
     let mut left = None;
     run(alloc, words, host, &mut left).code()

@@ -9,7 +9,7 @@ use Rattle.ny_top.specs.declared.status.Status.TheVariants.{Ok, Usage, OpenFault
 use Rattle.ny_check.specs.Code.{Code}
 use Rattle.ny_check.specs.Acceptance.{program_in}
 use Rattle.ny_pull.specs.Engine.{EngineState}
-use Rattle.ny_top.specs.Words.{Render, Task, Command, render, check}
+use Rattle.ny_words.specs.Commands.{Render, Task, Command, render, check}
 use Rattle.ny_top.specs.Outcome.{Outcome, HasProgramOutcome, HasReadOutcome, HasTextOutcome, HasCommandOutcome, IsRefused, IsUnrefused}
 use Rattle.ny_top.specs.Ends.{EndsAs, NoneRose, CreateCause, NoCreateRose, OpenCause, ReadCause, TaskPoolFull, is_whole}
 
@@ -84,6 +84,10 @@ completes asked left OpenFault old new causes quiet = absurd (no_open asked old 
 completes asked left ReadFault old new causes quiet = absurd (no_read asked old new quiet (causes.read refl))
 completes asked left WriteFault old new causes quiet = absurd (no_write asked old new quiet (causes.write refl))
 completes asked left OutOfMemory old new causes quiet = for_files (Completes asked left OutOfMemory) old.files (λ files unrefused. inr (inl refl))
+
+-- where memory was missing to read the words, it is told so
+pub unread_completes : (asked : Option Command) (left : Option EngineState) (files : Option (List Named)) → IfSome files (λ files. Completes asked left OutOfMemory files)
+unread_completes asked left files = for_files (Completes asked left OutOfMemory) files (λ files unrefused. inr (inl refl))
 
 -- ---- refusals leave no engine
 

@@ -14,7 +14,7 @@ use Rattle.ny_pull.specs.Engine.{EngineState, SamePiece}
 use Rattle.ny_report.specs.Lines.{full_line_of}
 use Rattle.ny_wav.specs.WavFile.{header_of, frame_of, wav_of}
 use Rattle.ny_syntax.specs.declared.tree.Tree.{Tree}
-use Rattle.ny_top.specs.Words.{Render, Task, render, check}
+use Rattle.ny_words.specs.Commands.{Render, Task, render, check}
 use Rattle.ny_top.specs.Channel.{file_of, first_frames}
 use Rattle.ny_top.specs.Playing.{IsAsked, HasPlayed, IsFullAfter, IsPoolFull, IsNew, pulls_of, pulls_in}
 use Rattle.ny_top.specs.Rounds.{IsUnderway, Wrote, WrotePart, IsPulledOut, IsSpentAfter, IsShortOf, IsPullFault, EndsRounds, EndsFile, frames_at, all_bytes, bytes_after}

@@ -1,6 +1,3 @@
-pub mod Numbers
-pub mod Rates
-pub mod OptionWords
 pub mod Parts
 pub mod FaultLines
 pub mod Outcomes
@@ -12,3 +9,4 @@ pub mod RoundLemmas
 pub mod FileLemmas
 pub mod OneOutcome
 pub mod Complete
+pub mod Unread

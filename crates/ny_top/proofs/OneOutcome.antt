@@ -18,7 +18,7 @@ use Rattle.ny_check.specs.Code.{Code}
 use Rattle.ny_pull.specs.declared.fault.PullFault.{PullFault}
 use Rattle.ny_pull.specs.declared.fault.PullFault.TheVariants.{PoolFull}
 use Rattle.ny_pull.specs.Engine.{EngineState}
-use Rattle.ny_top.specs.Words.{Render, Task, Command, render, check}
+use Rattle.ny_words.specs.Commands.{Render, Task, Command, render, check}
 use Rattle.ny_top.specs.Playing.{HasPlayed, IsFullAfter}
 use Rattle.ny_top.proofs.PullLemmas.{one_round}
 use Rattle.ny_top.specs.Reading.{IsTreeOf, IsAccepted, IsRefusal, refusal_text}

@@ -6,7 +6,7 @@ use Rattle.ny_io.specs.Faults.{Rose}
 use Rattle.ny_io.specs.Host.{HostState}
 use Rattle.ny_top.specs.declared.status.Status.{Status}
 use Rattle.ny_top.specs.declared.status.Status.TheVariants.{WriteFault}
-use Rattle.ny_top.specs.Words.{Command}
+use Rattle.ny_words.specs.Commands.{Command}
 use Rattle.ny_top.specs.Outcome.{Outcome}
 use Rattle.ny_top.specs.Ends.{FaultTold, NoneRose, IsOutcome, made, is_whole}
 

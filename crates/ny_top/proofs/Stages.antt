@@ -9,7 +9,8 @@ use Rattle.ny_check.specs.Code.{Code}
 use Rattle.ny_pull.specs.Engine.{EngineState}
 use Rattle.ny_top.specs.Channel.{file_of, first_frames}
 use Rattle.ny_top.specs.declared.status.Status.{Status}
-use Rattle.ny_top.specs.Words.{Render, Task, Command, render, check, read_words}
+use Rattle.ny_words.specs.Commands.{Render, Task, Command, render, check}
+use Rattle.ny_words.specs.Words.{read_words}
 use Rattle.ny_top.specs.Outcome.{Outcome, most, refused, too_long_line, create_line, usage_outcome, HasReadOutcome, HasTextOutcome, HasCommandOutcome, HasOutcome}
 use Rattle.ny_top.specs.Ends.{made, IsOutcome, EndsAs, ToldAs, FaultTold, WriteTold, CreateCause, CreateTold, OpenCause, HasPiece, MadePart, MadeTree, MadeText, Makes, CutsFile, CutsTree, CutsText, CutsShort}
 use Rattle.ny_top.proofs.FaultLines.{told_from}

@@ -11,7 +11,7 @@ use Rattle.ny_check.specs.Acceptance.{program_in}
 use Rattle.ny_top.specs.Channel.{file_of, first_frames}
 use Rattle.ny_top.specs.Playing.{IsPoolFull, IsShortAfter}
 use Rattle.ny_top.specs.Reading.{IsAccepted}
-use Rattle.ny_top.specs.Words.{Render, Task, Command, render, check}
+use Rattle.ny_words.specs.Commands.{Render, Task, Command, render, check}
 use Rattle.ny_top.specs.Outcome.{Outcome, most, usage_line, open_line, read_line, create_line, write_line, HasTextOutcome}
 use Rattle.ny_top.specs.declared.status.Status.{Status}
 use Rattle.ny_top.specs.declared.status.Status.TheVariants.{Ok, Usage, OpenFault, ReadFault, WriteFault, Refused, PoolFull, OutOfMemory}
@@ -125,7 +125,7 @@ CutsShort command left old new =
     SameOutput old new
     ⊎ ((text : List ℕ) × IfSome old.files (λ files. text ≡ bytes_under command.from files) × CutsText command.task text left old new)
 
--- the same of the words: where they are no command, memory is not asked for
+-- the same of the words: where they are no command, nothing is created
 abbrev pub RunCutsShort : Option Command → Option EngineState → HostState → HostState → Type 0
 RunCutsShort None left old new = SameOutput old new
 RunCutsShort (Some command) left old new = CutsShort command left old new

@@ -4,6 +4,4 @@ pub mod Outcome
 pub mod Reading
 pub mod Rounds
 pub mod Playing
-pub mod Views
-pub mod Words
 pub mod Frames

@@ -12,7 +12,8 @@ use Rattle.ny_check.specs.Acceptance.{program_in}
 use Rattle.ny_pull.specs.Engine.{EngineState}
 use Rattle.ny_top.specs.Channel.{file_of, first_frames}
 use Rattle.ny_top.specs.Playing.{HasPlayed, IsFullAfter}
-use Rattle.ny_top.specs.Words.{Render, Task, Command, render, check, read_words}
+use Rattle.ny_words.specs.Commands.{Render, Task, Command, render, check}
+use Rattle.ny_words.specs.Words.{read_words}
 use Rattle.ny_top.specs.declared.status.Status.{Status}
 use Rattle.ny_top.specs.declared.status.Status.TheVariants.{Ok, Usage, OpenFault, ReadFault, WriteFault, Refused, PoolFull, OutOfMemory}
 

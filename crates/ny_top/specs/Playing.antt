@@ -11,7 +11,7 @@ use Rattle.ny_check.specs.Code.{Code}
 use Rattle.ny_check.specs.Channels.{channels}
 use Rattle.ny_pull.specs.declared.fault.PullFault.TheVariants.{PoolFull, OutOfMemory}
 use Rattle.ny_pull.specs.Engine.{EngineState, channel_at, HasEnded, SamePiece, StopsAtFull, LacksMemory}
-use Rattle.ny_top.specs.Words.{Render}
+use Rattle.ny_words.specs.Commands.{Render}
 
 -- the engine has the rate, the pool and the block length that are asked for
 pub record IsAsked (r : Render) (e : EngineState) : Type 0 where

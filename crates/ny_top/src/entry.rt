@@ -4,15 +4,15 @@ ghost use Rattle.ny_io.specs.Faults.{Rose};
 ghost use Rattle.ny_io.specs.Host.{NoneFell, SameCounts, SameOutput, Named};
 ghost use Rattle.ny_pull.specs.Engine.{EngineState};
 ghost use Rattle.ny_top.specs.Outcome.{Outcome, HasOutcome, usage_line, IsRefused, IsUnrefused};
-ghost use Rattle.ny_top.specs.Words.{read_words};
+ghost use Rattle.ny_words.specs.Words.{read_words};
 ghost use Rattle.ny_top.specs.Ends.{OpenCause, ReadCause, NoneRose, RunWriteTold, RunMakes, RunCutsShort, EndsAs, TaskPoolFull, is_whole, is_unfailed, is_early};
 
 use crate::ends::finish;
 use crate::names::run_names;
 use crate::status::Status;
-use crate::words::read_command;
 use ny_io::Host;
 use ny_pull::Engine;
+use ny_words::{WordsFault, read_command};
 use std::alloc::Global;
 
 /// Runs the command of the words, without the program's name, over a host
@@ -38,7 +38,7 @@ pub fn run<H: Host>(
 
     // Each answer has its cause; the line of a file's fault is printed whole.
     ensures cause_usage { result ≡ Status.Usage → read_words (map string_bytes words.now) ≡ None }
-    ensures cause_no_command { read_words (map string_bytes words.now) ≡ None → (result ≡ Status.Usage) ⊎ (result ≡ Status.WriteFault) }
+    ensures cause_no_command { read_words (map string_bytes words.now) ≡ None → (result ≡ Status.Usage) ⊎ (result ≡ Status.WriteFault) ⊎ (result ≡ Status.OutOfMemory) }
     ensures cause_open { result ≡ Status.OpenFault → IsSomeAnd (read_words (map string_bytes words.now)) (λ command. OpenCause command (H.state host.old) (H.state host.new)) }
     ensures cause_read { result ≡ Status.ReadFault → IsSomeAnd (read_words (map string_bytes words.now)) (λ command. ReadCause command (H.state host.old) (H.state host.new)) }
     ensures cause_write { result ≡ Status.WriteFault → Rose (H.state host.old).writes (H.state host.new).writes }
@@ -79,8 +79,9 @@ pub fn run<H: Host>(
     ensures counts { NoneFell (H.state host.old) (H.state host.new) }
     ensures files { (H.state host.new).files ≡ (H.state host.old).files }
 {
-    match read_command(words) {
-        Some(command) => run_names(alloc, host, command, left),
-        None => finish(host, Status::Usage, b"fault: usage\n"),
+    match read_command(alloc, words) {
+        Ok(command) => run_names(alloc, host, command, left),
+        Err(WordsFault::Usage) => finish(host, Status::Usage, b"fault: usage\n"),
+        Err(WordsFault::OutOfMemory) => Status::OutOfMemory,
     }
 }

@@ -8,16 +8,16 @@ ghost use Rattle.ny_top.specs.Outcome.{create_line, HasPlayOutcome};
 ghost use Rattle.ny_top.specs.Playing.{IsNew, IsPoolFull};
 ghost use Rattle.ny_top.specs.Rounds.{IsPulledOut, EndsFile, Wrote, WrotePart};
 ghost use Rattle.ny_top.specs.Ends.{FaultTold, ToldAs, EndsAs, MadePart, CutsFile, is_whole, is_unfailed, is_early};
-ghost use Rattle.ny_top.specs.Views.{render_view};
+ghost use Rattle.ny_words.specs.Views.{render_view};
 
 use crate::ends::{OutputLines, end_at, end_full, tell_fault};
 use crate::frames::Buffers;
 use crate::rounds::{RoundFault, rounds};
 use crate::status::Status;
-use crate::words::Render;
 use ny_io::{Host, write_all};
 use ny_pull::Engine;
 use ny_wav::header;
+use ny_words::Render;
 use std::alloc::Global;
 
 /// Writes the header of the whole file by one call, and then the rounds.

@@ -13,7 +13,6 @@ mod song;
 mod status;
 mod text;
 mod unfailing;
-mod words;
 
 pub use entry::run;
 pub use status::Status;

@@ -4,15 +4,15 @@ ghost use Rattle.ny_io.specs.Faults.{Rose};
 ghost use Rattle.ny_io.specs.Host.{NoneFell, SameCounts, SameOutput, bytes_under};
 ghost use Rattle.ny_top.specs.Outcome.{HasTextOutcome};
 ghost use Rattle.ny_top.specs.Ends.{WriteTold, Makes, CutsShort, OpenCause, ReadCause, EndsAs, TaskPoolFull, is_whole, is_unfailed, is_early};
-ghost use Rattle.ny_top.specs.Views.{command_view};
-ghost use Rattle.ny_top.specs.Words.{IsInRange};
+ghost use Rattle.ny_words.specs.Views.{command_view};
+ghost use Rattle.ny_words.specs.Commands.{IsInRange};
 
 use crate::ends::{end_at, finish, input_lines};
 use crate::status::Status;
 use crate::text::run_text;
-use crate::words::Command;
 use ny_io::{Host, LoadFault, read_all};
 use ny_pull::Engine;
+use ny_words::Command;
 use std::alloc::Global;
 
 /// The most bytes of a text.

@@ -5,17 +5,17 @@ ghost use Rattle.ny_io.specs.Host.{NoneFell, SameCounts, SameOutput};
 ghost use Rattle.ny_check.specs.Acceptance.{program_in};
 ghost use Rattle.ny_top.specs.Outcome.{HasTreeOutcome};
 ghost use Rattle.ny_top.specs.Ends.{FaultTold, ToldAs, EndsAs, MadeTree, CutsTree, CreateCause, CreateTold, TaskPoolFull, is_whole, is_unfailed, is_early};
-ghost use Rattle.ny_top.specs.Views.{task_view};
-ghost use Rattle.ny_top.specs.Words.{IsInRange};
-ghost use Rattle.ny_top.specs.declared.words.Task.TheVariants.{Render as Plays};
+ghost use Rattle.ny_words.specs.Views.{task_view};
+ghost use Rattle.ny_words.specs.Commands.{IsInRange};
+ghost use Rattle.ny_words.specs.declared.command.Task.TheVariants.{Render as Plays};
 
 use crate::file::write_file;
 use crate::reading::Accepted;
 use crate::song::{Song, open_song};
 use crate::status::Status;
-use crate::words::Render;
 use ny_io::Host;
 use ny_pull::Engine;
+use ny_words::Render;
 use std::alloc::Global;
 
 /// Plays an accepted text into a file, and leaves the engine that was pulled. All memory is taken before

@@ -2,15 +2,15 @@ ghost use Rattle.std.specs.Prelude.{◌≡◌, length, IfOk};
 ghost use Rattle.ny_top.specs.Frames.{HasRoom};
 ghost use Rattle.ny_top.specs.Outcome.{create_line};
 ghost use Rattle.ny_top.specs.Playing.{IsNew};
-ghost use Rattle.ny_top.specs.Views.{render_view, task_view};
-ghost use Rattle.ny_top.specs.Words.{IsInRange};
-ghost use Rattle.ny_top.specs.declared.words.Task.TheVariants.{Render as Plays};
+ghost use Rattle.ny_words.specs.Views.{render_view, task_view};
+ghost use Rattle.ny_words.specs.Commands.{IsInRange};
+ghost use Rattle.ny_words.specs.declared.command.Task.TheVariants.{Render as Plays};
 
 use crate::ends::{OutputLines, output_lines};
 use crate::frames::{Buffers, make_buffers};
-use crate::words::Render;
 use ny_check::Program;
 use ny_pull::Engine;
+use ny_words::Render;
 use std::alloc::{AllocError, Global};
 
 /// What is played: an engine that was just opened, the buffers of its rounds, and the lines that may end the run.

@@ -8,17 +8,17 @@ ghost use Rattle.ny_check.specs.Acceptance.{program_in};
 ghost use Rattle.ny_top.specs.Reading.{refusal_text};
 ghost use Rattle.ny_top.specs.Outcome.{HasReadOutcome, HasTreeOutcome, refused};
 ghost use Rattle.ny_top.specs.Ends.{FaultTold, ToldAs, EndsAs, HasPiece, MadeTree, MadeText, CutsTree, CutsText, CreateCause, CreateTold, TaskPoolFull, IsOutcome, is_whole, is_unfailed, is_early};
-ghost use Rattle.ny_top.specs.Views.{task_view};
-ghost use Rattle.ny_top.specs.Words.{IsInRange};
+ghost use Rattle.ny_words.specs.Views.{task_view};
+ghost use Rattle.ny_words.specs.Commands.{IsInRange};
 
 use crate::ends::finish;
 use crate::play::play;
 use crate::reading::{Accepted, Refusal, TextFault, line_of, read_text};
 use crate::status::Status;
-use crate::words::Task;
 use ny_io::Host;
 use ny_pull::Engine;
 use ny_syntax::{Tree, canonical};
+use ny_words::Task;
 use std::alloc::Global;
 
 /// Ends a run with the line of a refusal.

@@ -4,7 +4,7 @@ use Rattle.ny_report.specs.Lines.{full_line_of}
 use Rattle.ny_top.specs.Channel.{file_of}
 use Rattle.ny_top.specs.Outcome.{create_line}
 use Rattle.ny_top.specs.Ends.{FaultTold}
-use Rattle.ny_top.specs.Views.{render_view}
+use Rattle.ny_words.specs.Views.{render_view}
 use Rattle.ny_top.specs.declared.status.Status.TheVariants.{PoolFull, WriteFault}
 use Rattle.ny_top.proofs.FaultLines.{told_alone, told_from, append_known-nothing}
 use Rattle.ny_top.proofs.Parts.{made_part, made_whole, made_after}

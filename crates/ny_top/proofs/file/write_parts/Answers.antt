@@ -2,7 +2,7 @@ use Rattle.std.proofs.Common.{◌∙◌, arith}
 use Rattle.ny_wav.specs.WavFile.{header_of}
 use Rattle.ny_top.proofs.RoundLemmas.{ok_on, err_on, if_err_on}
 use Rattle.ny_top.proofs.FileLemmas.{wrote_file, head_part, file_part, ends_file, within_hour}
-use Rattle.ny_top.specs.Views.{render_view}
+use Rattle.ny_words.specs.Views.{render_view}
 use Rattle.ny_top.proofs.file.write_parts.Goals as goal
 
 pub header-head-requires-clause-hour : goal.header-head-requires-clause-hour

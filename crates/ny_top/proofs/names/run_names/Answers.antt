@@ -3,7 +3,7 @@ use Rattle.ny_io.specs.Faults.{Rose}
 use Rattle.std.specs.Io.KnownBytes.{append_known}
 use Rattle.ny_top.specs.Outcome.{refused, too_long_line, open_line, read_line}
 use Rattle.ny_top.specs.Ends.{FaultTold}
-use Rattle.ny_top.specs.Views.{command_view, task_view}
+use Rattle.ny_words.specs.Views.{command_view, task_view}
 use Rattle.ny_top.proofs.FaultLines.{told_from}
 use Rattle.ny_top.proofs.Outcomes.{ended_whole, whole_sound}
 use Rattle.ny_top.proofs.Stages.{handed_on, ends_read, write_told, makes_read, cuts_read, quiet_then, not_created, too_long_ends, too_long_told}

@@ -1,5 +1,5 @@
 use Rattle.std.proofs.Common.{refl}
-use Rattle.ny_top.specs.Views.{render_view}
+use Rattle.ny_words.specs.Views.{render_view}
 use Rattle.ny_top.proofs.FileLemmas.{plays_tree, of_tree, made_of_tree, cuts_of_tree, ends_on, told_on, in_middle}
 use Rattle.ny_top.proofs.play.play.Goals as goal
 

@@ -1,6 +1,6 @@
 use Rattle.std.proofs.Common.{inl, inr, ap}
 use Rattle.ny_top.specs.Outcome.{checked}
-use Rattle.ny_top.specs.Views.{task_view}
+use Rattle.ny_words.specs.Views.{task_view}
 use Rattle.ny_top.proofs.FileLemmas.{of_check, only_ok}
 use Rattle.ny_top.proofs.text.run_accepted.Goals as goal
 

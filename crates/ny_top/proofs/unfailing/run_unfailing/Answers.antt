@@ -1,6 +1,6 @@
 use Rattle.std.proofs.Common.{refl, map, string_bytes}
 use Rattle.ny_io.specs.NeverFails.{state_of}
-use Rattle.ny_top.specs.Words.{read_words}
+use Rattle.ny_words.specs.Words.{read_words}
 use Rattle.ny_top.proofs.Complete.{still, no_open, no_read, no_write}
 use Rattle.ny_top.proofs.unfailing.run_unfailing.Goals as goal
 

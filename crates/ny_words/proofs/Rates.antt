@@ -5,7 +5,7 @@ use Rattle.std.proofs.lemmas.Bool.{ne_eqb}
 use Rattle.ny_num.specs.Grid.{hz_of}
 use Rattle.ny_num.specs.declared.rate.Rate.{Rate}
 use Rattle.ny_num.specs.declared.rate.Rate.TheVariants.{R2205, R4410, R8000, R11025, R16000, R22050, R32000, R44100, R48000}
-use Rattle.ny_top.specs.Words.{rate_with}
+use Rattle.ny_words.specs.Words.{rate_with}
 
 of_hz : (rate : Rate) → rate_with (hz_of rate) ≡ Some rate
 of_hz R2205 = refl

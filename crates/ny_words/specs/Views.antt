@@ -1,9 +1,9 @@
 -- A command of the program, as what it asks for.
-use Rattle.ny_top.specs.Words.{Render as RenderView, Task as TaskView, Command as CommandView, render, check, command_of}
-use Rattle.ny_top.specs.declared.words.Render.{Render}
-use Rattle.ny_top.specs.declared.words.Task.{Task}
-use Rattle.ny_top.specs.declared.words.Task.TheVariants as tasks
-use Rattle.ny_top.specs.declared.words.Command.{Command}
+use Rattle.ny_words.specs.Commands.{Render as RenderView, Task as TaskView, Command as CommandView, render, check, command_of}
+use Rattle.ny_words.specs.declared.command.Render.{Render}
+use Rattle.ny_words.specs.declared.command.Task.{Task}
+use Rattle.ny_words.specs.declared.command.Task.TheVariants as tasks
+use Rattle.ny_words.specs.declared.command.Command.{Command}
 
 -- what is asked for, without the places where names stand
 abbrev pub render_view : Render → RenderView

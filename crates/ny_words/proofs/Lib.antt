@@ -1,0 +1,4 @@
+pub mod MoreArguments
+pub mod Numbers
+pub mod Rates
+pub mod ReaderLemmas
