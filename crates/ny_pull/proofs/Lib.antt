@@ -6,3 +6,6 @@ pub mod BegunLemmas
 pub mod OpenLemmas
 pub mod SeatedLemmas
 pub mod PullLemmas
+pub mod OrderedLemmas
+pub mod PulledLemmas
+pub mod TurnLemmas

@@ -185,6 +185,9 @@ module _ (code : Code) (rate : Rate) (h : HeapState Branch) (os : List (Option S
         ap Fills.filled (sym fills_are)
         ∙ pull_leads h.block code rate pulled c playing.laws.positive pulled_count (opens_channel h.block (plan code rate) F c (row u) row_is (row_opens c u s at list))
 
+    pub walk_leads : Fills.filled (fills h.block (plan code rate) F c) ≡ counts h.block (plan code rate) (pulled_once c pulled)
+    walk_leads = ap Fills.filled fills_are ∙ fills_lead
+
     opened_unit : is_open h.block (unit c u s at list).unit ≡ true
     opened_unit = subst (λ (o : Option (Node Branch)). IsSomeAnd o (λ x. IsTrue (is_open h.block x))) (unit c u s at list).there opened
 

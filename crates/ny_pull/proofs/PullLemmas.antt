@@ -18,7 +18,7 @@ use Rattle.ny_hands.proofs.MarkLemmas.{marked_like}
 use Rattle.ny_plan.specs.Rows.{RowSound, row_at}
 use Rattle.ny_plan.specs.Plan.{plan}
 use Rattle.ny_plan.specs.Need.{Filled, is_open as is_open_row}
-use Rattle.ny_plan.specs.Fills.{Fills, no_fills, fill_row, channel_at, has_ended, fills}
+use Rattle.ny_plan.specs.Fills.{Fills, no_fills, fill_row, channel_at, has_ended, counts, fills}
 use Rattle.ny_plan.specs.Peak.{live_before}
 use Rattle.ny_plan.specs.Lines as lines
 use Rattle.ny_trace.specs.Laws.{KeepsFree}
@@ -36,7 +36,7 @@ use Rattle.ny_pull.specs.Places.{ReadsAt}
 use Rattle.ny_pull.specs.Planned.{filled_of, FollowsPlan, FillsAsPlanned, FindsAllLive}
 use Rattle.ny_pull.specs.Seated.{AreSeated}
 use Rattle.ny_pull.proofs.EngineLemmas.{state, playing, opens_at}
-use Rattle.ny_pull.proofs.PlannedLemmas.{there_is, F, over, live_is, live_of_kinds_is, walk_counts, walk_seated, stop_finds}
+use Rattle.ny_pull.proofs.PlannedLemmas.{there_is, F, over, live_is, live_of_kinds_is, walk_leads, walk_counts, walk_seated, stop_finds}
 use Rattle.ny_pull.proofs.SeatedLemmas.{read_seated}
 
 -- ---- counts
@@ -79,6 +79,8 @@ module _ (code : Code) (rate : Rate) (h : HeapState Branch) (os : List (Option S
     live = live_is code rate h os pulled plays inside.given seats_now;
     by_kind = live_of_kinds_is code rate h os pulled plays inside.given seats_now;
     fills = seats_now.fills;
+    count = omega (arith, plays.count, plays.count_pulls, seats_now.count);
+    lens = seats_now.lens;
   })
 
   pub kinds_follow : (e : EngineState) → state code rate os pulled spent h ≡ e → live_by_kind e.heap ≡ lines.live_by_kind e.heap.block (plan e.code e.rate).rows (filled_of e)
@@ -103,9 +105,14 @@ module _ (code : Code) (rate : Rate) (h : HeapState Branch) (os : List (Option S
     unfolding fills
     no_order = ap (λ b. Fills.order (cond b (no_fills F_now) (option_map_or (λ x. fill_row h.block (plan code rate).rows (x + 1) x F_now) (channel_at (plan code rate) c) (no_fills F_now)))) ended
 
+    no_more : Fills.filled (fills h.block (plan code rate) F_now c) ≡ F_now
+    unfolding fills
+    no_more = ap (λ b. Fills.filled (cond b (no_fills F_now) (option_map_or (λ x. fill_row h.block (plan code rate).rows (x + 1) x F_now) (channel_at (plan code rate) c) (no_fills F_now)))) ended
+
     -- so a pull of it fills nothing
     pub fills_nothing : (e : EngineState) → state code rate os pulled spent h ≡ e → FillsAsPlanned e e c
     fills_nothing e is = subst (λ (e : EngineState). FillsAsPlanned e e c) is (record {
+      leads = sym no_more;
       fills = ap (more_fills h.fills) (sym no_order);
       peak = ap (λ us. higher_peak h.peak (live_before h.block (plan code rate).rows us F_now)) (sym no_order);
       room = subst (λ us. AllByRecursion (λ n. n < h.pool) (live_before h.block (plan code rate).rows us F_now)) (sym no_order) tt;
@@ -122,8 +129,11 @@ module _ (code : Code) (rate : Rate) (h : HeapState Branch) (os : List (Option S
       counts_mid : Counts (plan code rate).rows F_now (Fills.order (fills h.block (plan code rate) F_now c)) h mid
       counts_mid = walk_counts code rate h os pulled plays inside.given seats_now c u found.0 found.1 opens.list opens.unit ordered free made (heights_enough code (height_of code) tall) deep us mid walk
 
-      pub fills_as_planned : (new : HeapState Branch) (later kept : List (Option Sound)) (counts : List ℕ) (later_spent : Option PullFault) (most n : ℕ) → ReadsAt mid new os later c most n → (e : EngineState) → state code rate os pulled spent h ≡ e → FillsAsPlanned e (state code rate kept counts later_spent new) c
-      fills_as_planned new later kept counts later_spent most n reads e is = subst (λ (e : EngineState). FillsAsPlanned e (state code rate kept counts later_spent new) c) is (record {
+      pub fills_as_planned : (new : HeapState Branch) (later kept : List (Option Sound)) (many : List ℕ) (later_spent : Option PullFault) (most n : ℕ) → ReadsAt mid new os later c most n → many ≡ with_pull pulled c → (e : EngineState) → state code rate os pulled spent h ≡ e → FillsAsPlanned e (state code rate kept many later_spent new) c
+      fills_as_planned new later kept many later_spent most n reads more e is = subst (λ (e : EngineState). FillsAsPlanned e (state code rate kept many later_spent new) c) is (record {
+        leads =
+            (λ i. counts (((read_counts mid new os later c most n reads).block ∙ counts_mid.block) i) (plan code rate) (more i))
+            ∙ sym (walk_leads code rate h os pulled plays inside.given seats_now c u found.0 found.1 opens.list opens.unit);
         fills = (read_counts mid new os later c most n reads).fills ∙ counts_mid.fills;
         peak = (read_counts mid new os later c most n reads).peak ∙ counts_mid.peak;
         room = counts_mid.room;

@@ -43,6 +43,9 @@ module _ (code : Code) (rate : Rate) (os : List (Option Sound)) (pulled : List �
       never : false ≡ true → ⊥
       never q = cc
 
+  pub within_pulled : (frames pulls : ℕ) → IsEngineInside code rate h os pulled frames pulls spent → c < length e.channels → c < length e.pulled
+  within_pulled frames pulls inside = subst (λ (e : EngineState). c < length e.channels → c < length e.pulled) is (λ less. omega (arith, inside.count, inside.count_pulled, less))
+
   pub one_pull : (n : ℕ) → 0 < n → with_pull pulled c ≡ (if nat_lt 0 n then with_pull e.pulled c else e.pulled)
   one_pull n some = ap (λ (e : EngineState). with_pull e.pulled c) is ∙ sym (ap (λ b. if b then with_pull e.pulled c else e.pulled) (lt-ltb 0 n some))
 

@@ -13,10 +13,12 @@ ghost use Rattle.ny_heap.specs.Steps.{IsHeldSound, Passes, advanced, run_of, com
 ghost use Rattle.ny_hands.specs.Counts.{SameCounts};
 ghost use Rattle.ny_eval.specs.Opened.{AreOpened, zeros};
 ghost use Rattle.ny_plan.specs.Plan.{plan};
+ghost use Rattle.ny_plan.specs.Peak.{first_full};
 ghost use Rattle.ny_plan.specs.Liveness.{live as live_by_plan};
 ghost use Rattle.ny_plan.specs.Lines.{live_by_kind as live_kinds_by_plan};
 ghost use Rattle.ny_pull.specs.Seated.{AreSeated};
 ghost use Rattle.ny_pull.specs.Planned.{filled_of, FollowsPlan, FillsAsPlanned, FindsAllLive};
+ghost use Rattle.ny_pull.specs.Ordered.{HasPulled};
 ghost use Rattle.ny_pull.specs.Places.{unit_at, ReadsAt, longest_of, HaveBegun};
 ghost use Rattle.ny_pull.specs.Engine.{EngineState, channel_at, next_block, HasEnded, IsReadByChannels, with_pull, SamePiece, MeansItsChannels, Leaves, GivesBlock, StopsAtFull, NeedsMore, LacksMemory, full_of};
 
@@ -175,6 +177,7 @@ impl Engine {
         ensures laws { IfOk result (λ e. HeapLaws e.heap) }
         ensures means { IfOk result (λ e. MeansItsChannels e) }
         ensures follows { IfOk result (λ e. FollowsPlan e) }
+        ensures order { IfOk result (λ e. HasPulled [] e) }
     {
         program_laws(&program);
         meaning_law(&program);
@@ -254,6 +257,8 @@ impl Engine {
         ensures fills { OnOk result (FillsAsPlanned self.old self.new c) }
         ensures finds { IfErr result (λ fault. fault ≢ PullFault.OutOfMemory → self.old.spent ≡ None → FindsAllLive self.old c) }
         ensures follows { self.new.spent ≡ None → FollowsPlan self.new }
+        ensures order { IfOk result (λ n. (order : List ℕ) → HasPulled order self.old → HasPulled (if nat_lt 0 n then order ++ c ∷ [] else order) self.new) }
+        ensures first { IfErr result (λ fault. fault ≢ PullFault.OutOfMemory → self.old.spent ≡ None → (order rest : List ℕ) → HasPulled order self.old → first_full self.old.heap.block (plan self.old.code self.old.rate) self.old.heap.pool (order ++ c ∷ rest) ≡ Some (length order)) }
     {
         if let Some(fault) = self.spent {
             return Err(fault);

@@ -10,13 +10,15 @@ use Rattle.ny_check.specs.Code.{Code}
 use Rattle.ny_check.specs.Channels.{channels, frames, longest}
 use Rattle.ny_check.specs.Acceptance.{program_in}
 use Rattle.ny_pull.specs.declared.fault.PullFault.TheVariants as faults
+use Rattle.ny_plan.specs.Plan.{plan}
+use Rattle.ny_plan.specs.Peak.{peak_of, first_full}
 use Rattle.ny_pull.specs.Engine.{EngineState, SamePiece}
 use Rattle.ny_report.specs.Lines.{full_line_of}
 use Rattle.ny_wav.specs.WavFile.{header_of, frame_of, wav_of}
 use Rattle.ny_syntax.specs.declared.tree.Tree.{Tree}
 use Rattle.ny_words.specs.Commands.{Render, Task, render, check}
 use Rattle.ny_top.specs.Channel.{file_of, first_frames}
-use Rattle.ny_top.specs.Playing.{IsAsked, HasPlayed, IsFullAfter, IsPoolFull, IsNew, pulls_of, pulls_in}
+use Rattle.ny_top.specs.Playing.{IsAsked, order_of, HasPlayed, IsFullAfter, IsPoolFull, IsNew, pulls_of, pulls_in}
 use Rattle.ny_top.specs.Rounds.{IsUnderway, Wrote, WrotePart, IsPulledOut, IsSpentAfter, IsShortOf, IsPullFault, EndsRounds, EndsFile, frames_at, all_bytes, bytes_after}
 use Rattle.ny_top.specs.Outcome.{Outcome, played, full, checked, HasPlayOutcome, HasProgramOutcome, HasTreeOutcome}
 use Rattle.ny_top.specs.Ends.{EndsAs, ToldAs, FaultTold, MadePart, MadeTree, CutsFile, CutsTree, made, is_whole, is_unfailed, is_early}
@@ -81,6 +83,7 @@ begins r e new = record {
   pulls = new.pulls ∙ no_rounds e.heap.block (channels e.code e.rate);
   unspent = new.unspent;
   laws = new.laws;
+  follows = new.follows;
 }
 
 -- no more frames than an hour has
@@ -95,13 +98,20 @@ asked_on r start e new same = record {
 }
 
 has_played : (r : Render) (start e : EngineState) → IsNew r start → IsPulledOut start e → HasPlayed r start.code e
-has_played r start e new out = record {
-  asked = asked_on r start e new out.same;
-  piece = out.same.code;
-  pulls = out.pulls ∙ (λ i. map (pulls_of (new.asked.block i)) (channels start.code (new.asked.rate i)));
-  ended = out.ended;
-  unspent = out.unspent;
-}
+has_played r start e new out =
+    let block : e.heap.block ≡ r.block = out.same.block ∙ new.asked.block in
+    let pool : e.heap.pool ≡ r.pool = out.same.pool ∙ new.asked.pool in
+    let rate : e.rate ≡ r.rate = out.same.rate ∙ new.asked.rate in
+    let order : order_of start.heap.block start.code start.rate ≡ order_of r.block start.code r.rate = λ i. order_of (new.asked.block i) start.code (new.asked.rate i) in
+    record {
+      asked = asked_on r start e new out.same;
+      piece = out.same.code;
+      pulls = out.pulls ∙ (λ i. map (pulls_of (new.asked.block i)) (channels start.code (new.asked.rate i)));
+      ended = out.ended;
+      unspent = out.unspent;
+      room = sym (λ i. first_full (block i) (plan (out.same.code i) (rate i)) (pool i) (order i)) ∙ out.order.room;
+      peak = out.order.peak ∙ (λ i. peak_of (block i) (plan (out.same.code i) (rate i)) (order i));
+    }
 
 full_after : (r : Render) (start e : EngineState) (rounds : ℕ) → IsNew r start → IsSpentAfter start e rounds → IsFullAfter r start.code rounds e
 full_after r start e rounds new spent = record {
@@ -110,6 +120,7 @@ full_after r start e rounds new spent = record {
   at = spent.at;
   pulls = spent.pulls;
   spent = spent.spent ∙ ap (λ pool. Some (faults.PoolFull (sum e.pulled) pool)) new.asked.pool;
+  first = sym (λ i. first_full (new.asked.block i) (plan start.code (new.asked.rate i)) (new.asked.pool i) (order_of (new.asked.block i) start.code (new.asked.rate i))) ∙ spent.first;
 }
 
 pub pool_full : (r : Render) (start e : EngineState) (rounds : ℕ) → IsNew r start → IsSpentAfter start e rounds → IsPoolFull r e

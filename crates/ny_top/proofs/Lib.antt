@@ -8,5 +8,6 @@ pub mod FrameLemmas
 pub mod RoundLemmas
 pub mod FileLemmas
 pub mod OneOutcome
+pub mod OneRound
 pub mod Complete
 pub mod Unread

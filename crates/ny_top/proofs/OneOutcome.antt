@@ -1,4 +1,4 @@
--- A text has one outcome at most, so words have one over the same files.
+-- A text has one outcome at most, so words have one over the same files, whatever engines are left.
 use Rattle.std.proofs.Common.{◌≡◌, ℕ, List, length, sum, sym, subst, ap, ◌∙◌, arith, None, Some, inl, inr}
 use Rattle.std.specs.declared.option.Option.{Option}
 use Rattle.ny_io.specs.Host.{Named, bytes_under}
@@ -15,12 +15,10 @@ use Rattle.ny_check.specs.Acceptance.{fault_of, program_in}
 use Rattle.ny_top.specs.declared.reading.Refusal.{Refusal}
 use Rattle.ny_top.specs.declared.reading.Refusal.TheVariants.{Lex, Parse, Check}
 use Rattle.ny_check.specs.Code.{Code}
-use Rattle.ny_pull.specs.declared.fault.PullFault.{PullFault}
-use Rattle.ny_pull.specs.declared.fault.PullFault.TheVariants.{PoolFull}
 use Rattle.ny_pull.specs.Engine.{EngineState}
 use Rattle.ny_words.specs.Commands.{Render, Task, Command, render, check}
-use Rattle.ny_top.specs.Playing.{HasPlayed, IsFullAfter}
-use Rattle.ny_top.proofs.PullLemmas.{one_round}
+use Rattle.ny_top.specs.Playing.{first_full_of}
+use Rattle.ny_top.proofs.OneRound.{same_round}
 use Rattle.ny_top.specs.Reading.{IsTreeOf, IsAccepted, IsRefusal, refusal_text}
 use Rattle.ny_top.specs.Outcome.{Outcome, refused, full, HasPlayOutcome, HasProgramOutcome, HasTreeOutcome, HasReadOutcome, HasTextOutcome, HasCommandOutcome}
 
@@ -80,44 +78,46 @@ refusal_or_tree text (Parse at) tree (tokens, spelled, stops) (has, accepted) = 
 refusal_or_tree text (Check at why) tree (second, again, fault) (has, accepted) =
     no_fault (fault_of tree) (record { at = at; why = why }) accepted (ap fault_of (sym (one_tree text tree second has again)) ∙ fault)
 
--- an engine that was pulled to its end was not spent
-played_or_full : (r : Render) (code : Code) (e : EngineState) (rounds : ℕ) → HasPlayed r code e → IsFullAfter r code rounds e → ⊥
-played_or_full r code e rounds ended stopped = never e.spent (PoolFull (sum e.pulled) r.pool) ended.unspent stopped.spent
-  where
-    never : (o : Option PullFault) (fault : PullFault) → o ≡ None → o ≡ Some fault → ⊥
-    never o fault none is = cc
+-- a piece is played to its end or finds its pool full, not both
+played_or_full : (o : Option ℕ) (k : ℕ) → o ≡ None → o ≡ Some k → ⊥
+played_or_full o k none is = cc
 
-one_play : (r : Render) (code : Code) (e : EngineState) (o p : Outcome) → HasPlayOutcome r code e o → HasPlayOutcome r code e p → p ≡ o
-one_play r code e o p (inl (ended, o_is)) (inl (again, p_is)) = p_is ∙ sym o_is
-one_play r code e o p (inl (ended, o_is)) (inr (n, stopped, p_is)) = absurd (played_or_full r code e n ended stopped)
-one_play r code e o p (inr (n, stopped, o_is)) (inl (ended, p_is)) = absurd (played_or_full r code e n ended stopped)
-one_play r code e o p (inr (n, stopped, o_is)) (inr (m, again, p_is)) =
-    p_is ∙ ap (λ k. full r code k (sum e.pulled)) (one_round e n stopped.at m again.at stopped.pulls again.pulls) ∙ sym o_is
+same_count : (o : Option ℕ) (j k : ℕ) → o ≡ Some j → o ≡ Some k → k ≡ j
+same_count o j k is again = cc
 
-one_program : (r : Render) (program : Option Code) (left : Option EngineState) (o p : Outcome) → HasProgramOutcome r program left o → HasProgramOutcome r program left p → p ≡ o
-one_program r None left o p is again = absurd is
-one_program r (Some code) None o p is again = absurd is
-one_program r (Some code) (Some e) o p is again = one_play r code e o p is again
+one_play : (r : Render) (code : Code) (e f : EngineState) (o p : Outcome) → HasPlayOutcome r code e o → HasPlayOutcome r code f p → p ≡ o
+one_play r code e f o p (inl (ended, o_is)) (inl (again, p_is)) = p_is ∙ sym o_is
+one_play r code e f o p (inl (ended, o_is)) (inr (n, stopped, p_is)) = absurd (played_or_full (first_full_of r code) (sum f.pulled) ended.room stopped.first)
+one_play r code e f o p (inr (n, stopped, o_is)) (inl (ended, p_is)) = absurd (played_or_full (first_full_of r code) (sum e.pulled) ended.room stopped.first)
+one_play r code e f o p (inr (n, stopped, o_is)) (inr (m, again, p_is)) =
+    let count : sum f.pulled ≡ sum e.pulled = same_count (first_full_of r code) (sum e.pulled) (sum f.pulled) stopped.first again.first in
+    p_is ∙ (λ i. full r code (same_round r code e f n m stopped again count i) (count i)) ∙ sym o_is
 
-one_of_tree : (task : Task) (tree : Tree) (left : Option EngineState) (o p : Outcome) → HasTreeOutcome task tree left o → HasTreeOutcome task tree left p → p ≡ o
-one_of_tree (render r) tree left o p is again = one_program r (program_in tree) left o p is again
-one_of_tree check tree left o p is again = again.1 ∙ sym is.1
+one_program : (r : Render) (program : Option Code) (left other : Option EngineState) (o p : Outcome) → HasProgramOutcome r program left o → HasProgramOutcome r program other p → p ≡ o
+one_program r None left other o p is again = absurd is
+one_program r (Some code) None other o p is again = absurd is
+one_program r (Some code) (Some e) None o p is again = absurd again
+one_program r (Some code) (Some e) (Some f) o p is again = one_play r code e f o p is again
 
-one_read : (task : Task) (text : List ℕ) (left : Option EngineState) (o p : Outcome) → HasReadOutcome task text left o → HasReadOutcome task text left p → p ≡ o
-one_read task text left o p (inl (a, is, none, o_is)) (inl (b, again, none_again, p_is)) = p_is ∙ ap (λ r. refused (refusal_text r)) (one_refusal text a b is again) ∙ sym o_is
-one_read task text left o p (inl (a, is, none, o_is)) (inr (tree, again, p_is)) = absurd (refusal_or_tree text a tree is again)
-one_read task text left o p (inr (tree, is, o_is)) (inl (b, again, none, p_is)) = absurd (refusal_or_tree text b tree again is)
-one_read task text left o p (inr (tree, is, o_is)) (inr (other, again, p_is)) =
-    let P : Tree → Type 0 = λ t. HasTreeOutcome task t left p in
-    one_of_tree task tree left o p o_is (subst P (one_tree text tree other is.0 again.0) p_is)
+one_of_tree : (task : Task) (tree : Tree) (left other : Option EngineState) (o p : Outcome) → HasTreeOutcome task tree left o → HasTreeOutcome task tree other p → p ≡ o
+one_of_tree (render r) tree left other o p is again = one_program r (program_in tree) left other o p is again
+one_of_tree check tree left other o p is again = again.1 ∙ sym is.1
 
-one_text : (task : Task) (text : List ℕ) (left : Option EngineState) (o p : Outcome) → HasTextOutcome task text left o → HasTextOutcome task text left p → p ≡ o
-one_text task text left o p (inl (long, none, o_is)) (inl (again, none_again, p_is)) = p_is ∙ sym o_is
-one_text task text left o p (inl (long, none, o_is)) (inr (short, has)) = absurd (omega (arith, long, short))
-one_text task text left o p (inr (short, has)) (inl (long, none, p_is)) = absurd (omega (arith, long, short))
-one_text task text left o p (inr (short, has)) (inr (again, other)) = one_read task text left o p has other
+one_read : (task : Task) (text : List ℕ) (left other : Option EngineState) (o p : Outcome) → HasReadOutcome task text left o → HasReadOutcome task text other p → p ≡ o
+one_read task text left other o p (inl (a, is, none, o_is)) (inl (b, again, none_again, p_is)) = p_is ∙ ap (λ r. refused (refusal_text r)) (one_refusal text a b is again) ∙ sym o_is
+one_read task text left other o p (inl (a, is, none, o_is)) (inr (tree, again, p_is)) = absurd (refusal_or_tree text a tree is again)
+one_read task text left other o p (inr (tree, is, o_is)) (inl (b, again, none, p_is)) = absurd (refusal_or_tree text b tree again is)
+one_read task text left other o p (inr (tree, is, o_is)) (inr (second, again, p_is)) =
+    let P : Tree → Type 0 = λ t. HasTreeOutcome task t other p in
+    one_of_tree task tree left other o p o_is (subst P (one_tree text tree second is.0 again.0) p_is)
 
--- a command has one outcome at most, where the same engine is left
-pub one_outcome : (asked : Option Command) (files : List Named) (left : Option EngineState) (o p : Outcome) → HasCommandOutcome asked files left o → HasCommandOutcome asked files left p → p ≡ o
-one_outcome None files left o p is again = again.1 ∙ sym is.1
-one_outcome (Some command) files left o p is again = one_text command.task (bytes_under command.from files) left o p is again
+one_text : (task : Task) (text : List ℕ) (left other : Option EngineState) (o p : Outcome) → HasTextOutcome task text left o → HasTextOutcome task text other p → p ≡ o
+one_text task text left other o p (inl (long, none, o_is)) (inl (again, none_again, p_is)) = p_is ∙ sym o_is
+one_text task text left other o p (inl (long, none, o_is)) (inr (short, has)) = absurd (omega (arith, long, short))
+one_text task text left other o p (inr (short, has)) (inl (long, none, p_is)) = absurd (omega (arith, long, short))
+one_text task text left other o p (inr (short, has)) (inr (again, second)) = one_read task text left other o p has second
+
+-- a command has one outcome at most
+pub one_outcome : (asked : Option Command) (files : List Named) (left other : Option EngineState) (o p : Outcome) → HasCommandOutcome asked files left o → HasCommandOutcome asked files other p → p ≡ o
+one_outcome None files left other o p is again = again.1 ∙ sym is.1
+one_outcome (Some command) files left other o p is again = one_text command.task (bytes_under command.from files) left other o p is again

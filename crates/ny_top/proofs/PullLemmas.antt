@@ -6,7 +6,6 @@ use borrow.Rule.Slice.PartMut.{put_mid}
 use Rattle.ny_num.proofs.PartAdded.{part_added}
 use Rattle.std.proofs.lemmas.Bool.{lt-ltb, le-ltb, le-leb, cases_lt}
 use Rattle.std.proofs.lemmas.Grind.{div_ceil_times}
-use Rattle.std.proofs.Math.Nat.{eq-or-lt_of_le, zero-div, zero-mod}
 use Rattle.std.proofs.lemmas.List.{get_or-take, get_or-drop, get_or_past, get_or_append_left, get_or-append_right, append-nil, drop_all}
 use Rattle.std.proofs.lemmas.List.FromFn.{length-map-range_with_len}
 use Rattle.ny_heap.specs.Heap.{live_of}
@@ -19,14 +18,19 @@ use Rattle.ny_num.specs.Mix.{channel, channel_timing}
 use Rattle.ny_warp.specs.Environment.{opening}
 use Rattle.ny_check.specs.Code.{Code}
 use Rattle.ny_check.specs.Channels.{channels, channel_at as in_channel, played}
+use Rattle.ny_plan.specs.Plan.{plan}
+use Rattle.ny_plan.specs.Peak.{first_full}
 use Rattle.ny_pull.specs.declared.fault.PullFault.{PullFault}
 use Rattle.ny_pull.specs.declared.fault.PullFault.TheVariants as faults
 use Rattle.ny_pull.specs.Engine.{EngineState, channel_at, passed_of, next_block, with_pull, HasEnded, SamePiece, StopsAtFull, LacksMemory, full_of}
+use Rattle.ny_pull.specs.Planned.{FollowsPlan}
+use Rattle.ny_pull.specs.Ordered.{HasPulled, IsInOrder}
+use Rattle.ny_pull.proofs.TurnLemmas.{turn_made, turn_found}
 use Rattle.ny_top.specs.Frames.{heard_at}
-use Rattle.ny_top.specs.Playing.{pulls_of, pulls_in, pulled_after, IsInRound}
-use Rattle.ny_top.specs.Rounds.{IsUnderway, IsPullFault}
+use Rattle.ny_top.specs.Playing.{pulls_of, pulls_in, pulled_after, upwards, order_of, IsInRound}
+use Rattle.ny_top.specs.Rounds.{IsUnderway, IsAtTurn, IsPullFault}
 use Rattle.ny_top.specs.declared.rounds.RoundFault.TheVariants.{PoolFull, OutOfMemory}
-use Rattle.ny_top.proofs.PulledLists.{parted_at, parted_behind, parted_set, parted_same}
+use Rattle.ny_top.proofs.PulledLists.{parted_at, parted_count, parted_set, parted_same}
 
 -- ---- counts
 
@@ -224,13 +228,36 @@ module _ (rounds c : ℕ) (old : EngineState) (under : IsUnderway rounds c old) 
           ∙ parted_same f g c (channels old.code old.rate) (silence old.rate) inside (omega (arith, all))
 
   pub underway_more : (new : EngineState) (n : ℕ) → n ≡ length (next_block old c) → new.pulled ≡ (if nat_lt 0 n then with_pull old.pulled c else old.pulled) → SamePiece old new
-      → new.spent ≡ None → HeapLaws new.heap → IsUnderway rounds (suc c) new
-  underway_more new n count pulled same unspent laws = record {
+      → new.spent ≡ None → HeapLaws new.heap → FollowsPlan new → IsUnderway rounds (suc c) new
+  underway_more new n count pulled same unspent laws follows = record {
     count = same.channels ∙ under.count ∙ (λ i. length (channels (sym same.code i) (sym same.rate i)));
     pulls = pulled_more new n count pulled ∙ (λ i. pulled_after (sym same.block i) rounds (suc c) (channels (sym same.code i) (sym same.rate i)));
     unspent = unspent;
     laws = laws;
+    follows = follows;
   }
+
+  -- ---- its place in the order
+
+  many : length old.pulled ≡ length (channels old.code old.rate)
+  many = ap length under.pulls ∙ parted_count (pulls_in old.heap.block (rounds + 1)) (pulls_in old.heap.block rounds) c (channels old.code old.rate)
+
+  -- the channel whose turn it is, and those behind it
+  turn_here : (n : ℕ) → IsAtTurn c n old → IsInOrder (upwards old.code old.rate) (c ∷ range_with_len (c + 1) (length (channels old.code old.rate) - (c + 1))) n old
+  turn_here n at =
+      let left : length (channels old.code old.rate) - c ≡ suc (length (channels old.code old.rate) - (c + 1)) = omega (arith, inside) in
+      subst (λ k. IsInOrder (upwards old.code old.rate) (range_with_len c k) n old) left at
+
+  pub turn_more : (n : ℕ) → IsAtTurn c n old → (new : EngineState) (count : ℕ) → count ≡ length (next_block old c) → new.pulled ≡ (if nat_lt 0 count then with_pull old.pulled c else old.pulled) → SamePiece old new
+      → ((order : List ℕ) → HasPulled order old → HasPulled (if nat_lt 0 count then order ++ c ∷ [] else order) new) → IsAtTurn (c + 1) n new
+  turn_more n at new count gives pulled same ordered =
+      subst (λ k. IsInOrder (range_with_len 0 k) (range_with_len (c + 1) (k - (c + 1))) n new) (sym (λ i. length (channels (same.code i) (same.rate i))))
+      (turn_made (upwards old.code old.rate) (range_with_len (c + 1) (length (channels old.code old.rate) - (c + 1))) c n old (turn_here n at) under.follows many under.laws.positive (omega (arith, inside, many)) new count same gives pulled ordered).0
+
+  pub first_here : (n : ℕ) → IsAtTurn c n old → (HasEnded old c → ⊥) → ((order later : List ℕ) → HasPulled order old → first_full old.heap.block (plan old.code old.rate) old.heap.pool (order ++ c ∷ later) ≡ Some (length order))
+      → first_full old.heap.block (plan old.code old.rate) old.heap.pool (order_of old.heap.block old.code old.rate) ≡ Some (sum old.pulled)
+  first_here n at more first =
+      turn_found (upwards old.code old.rate) (range_with_len (c + 1) (length (channels old.code old.rate) - (c + 1))) c n old (turn_here n at) under.follows many under.laws.positive (omega (arith, inside, many)) more first
 
 -- ---- a pull that gave none
 
@@ -254,8 +281,11 @@ in_round rounds c old new under within pulled same more = record {
 -- a pull that found the pool full
 pub spent_after : (rounds c : ℕ) (old new : EngineState) (fault : PullFault) (n live : ℕ) → IsUnderway rounds c old → c < length old.channels → (HasEnded old c → ⊥) → fault ≡ faults.PoolFull n live
     → (fault ≢ faults.OutOfMemory → (fault ≡ full_of old) × (live_of new.heap ≡ new.heap.pool)) → new.spent ≡ Some fault → new.pulled ≡ old.pulled → SamePiece old new → HeapLaws new.heap
-    → (fault ≢ faults.OutOfMemory → old.spent ≡ None → StopsAtFull old new c) → IsPullFault old new rounds (PoolFull n)
-spent_after rounds c old new fault n live under within more is full spent pulled same laws stops =
+    → (fault ≢ faults.OutOfMemory → old.spent ≡ None → StopsAtFull old new c)
+    → (left : ℕ) → IsAtTurn c left old
+    → (fault ≢ faults.OutOfMemory → old.spent ≡ None → (order later : List ℕ) → HasPulled order old → first_full old.heap.block (plan old.code old.rate) old.heap.pool (order ++ c ∷ later) ≡ Some (length order))
+    → IsPullFault old new rounds (PoolFull n)
+spent_after rounds c old new fault n live under within more is full spent pulled same laws stops left at first =
     let other : fault ≢ faults.OutOfMemory = λ short. full_is_no_want n live (sym is ∙ short) in
     let parts = full_parts n live (sum old.pulled) old.heap.pool (sym is ∙ (full other).0) in
     let count : n ≡ sum new.pulled = parts.0 ∙ sym (ap sum pulled) in (
@@ -273,8 +303,11 @@ spent_after rounds c old new fault n live under within more is full spent pulled
           pulls = sym pulled;
           unspent = under.unspent;
           earlier = under.laws;
+          order = at.done;
+          so = at.so;
           stops = stops other under.unspent;
         };
+        first = first_here rounds c old under within left at more (first other under.unspent) ∙ ap (λ (ns : List ℕ). Some (sum ns)) (sym pulled);
       },
     )
 
@@ -297,48 +330,3 @@ short_of rounds c old new fault under within more is waits lacks spent pulled sa
     lacks = lacks is under.unspent;
   };
 }
-
--- ---- one round
-
--- what channel i has given, by place
-turn_at : (n c : ℕ) (e : EngineState) (i : ℕ) (cs : List sounds.Sound) (d : sounds.Sound) → i < length cs → c ≤ i → e.pulled ≡ pulled_after e.heap.block n c cs
-    → slice_index e.pulled i ≡ min n (pulls_of e.heap.block (slice_index_or cs i d))
-turn_at n c e i cs d within le pulls = of (eq-or-lt_of_le le)
-  where
-    of : (c ≡ i) ⊎ (c < i) → slice_index e.pulled i ≡ min n (pulls_of e.heap.block (slice_index_or cs i d))
-    of (inl same) =
-        ap (λ xs. slice_index xs i) (pulls ∙ ap (λ k. pulled_after e.heap.block n k cs) same) ∙ parted_at (pulls_in e.heap.block (n + 1)) (pulls_in e.heap.block n) i cs d within
-    of (inr behind) = ap (λ xs. slice_index xs i) pulls ∙ parted_behind (pulls_in e.heap.block (n + 1)) (pulls_in e.heap.block n) i c cs d behind within
-
-no_pulls : (block : ℕ) → div_ceil 0 block ≡ 0
-no_pulls block = (λ i. zero-div block i + min 1 (zero-mod block i))
-
--- a channel that takes a further pull is there
-is_there : (n c block : ℕ) (cs : List sounds.Sound) (rate : Rate) → n < pulls_of block (slice_index_or cs c (silence rate)) → c < length cs
-is_there n c block cs rate more = of (cases_lt c (length cs))
-  where
-    of : (c < length cs) ⊎ (length cs ≤ c) → c < length cs
-    of (inl less) = less
-    of (inr past) = absurd (omega (arith, more, no_more))
-      where
-        no_more : pulls_of block (slice_index_or cs c (silence rate)) ≡ 0
-        no_more = ap (λ (s : sounds.Sound). pulls_of block s) (get_or_past cs c (silence rate) past) ∙ ap (λ (len : ℕ). div_ceil len block) (no_samples rate) ∙ no_pulls block
-
--- an engine is in one round
-pub one_round : (e : EngineState) (n c m d : ℕ) → IsInRound n c e → IsInRound m d e → m ≡ n
-one_round e n c m d first second = of (cases_lt c d)
-  where
-    cs : List sounds.Sound
-    cs = channels e.code e.rate
-
-    there_c : c < length cs
-    there_c = is_there n c e.heap.block cs e.rate first.more
-
-    there_d : d < length cs
-    there_d = is_there m d e.heap.block cs e.rate second.more
-
-    of : (c < d) ⊎ (d ≤ c) → m ≡ n
-    of (inl before) =
-        omega (arith, second.more, turn_at n c e d cs (silence e.rate) there_d (omega (arith, before)) first.pulls, turn_at m d e d cs (silence e.rate) there_d (omega arith) second.pulls)
-    of (inr le) =
-        omega (arith, first.more, turn_at n c e c cs (silence e.rate) there_c (omega arith) first.pulls, turn_at m d e c cs (silence e.rate) there_c le second.pulls)

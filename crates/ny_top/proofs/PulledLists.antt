@@ -1,5 +1,5 @@
 -- Lists of how many pulls of each channel gave samples.
-use Rattle.std.proofs.Common.{◌≡◌, ℕ, zero, suc, ◌<◌, ◌≤◌, List, [], ◌∷◌, ◌++◌, map, take, drop, length, refl, ap, arith, slice_index, slice_index_or, slice_set}
+use Rattle.std.proofs.Common.{◌≡◌, ℕ, zero, suc, ◌<◌, ◌≤◌, ◌⊎◌, inl, inr, List, [], ◌∷◌, ◌++◌, map, take, drop, length, refl, ap, arith, slice_index, slice_index_or, slice_set}
 
 -- those before place c by one count, and the others by another
 abbrev pub parted : {A : Type 0} → (A → ℕ) → (A → ℕ) → ℕ → List A → List ℕ
@@ -17,12 +17,19 @@ map_at g [] i d within = absurd (omega (arith, within))
 map_at g (x ∷ xs) zero d within = refl
 map_at g (x ∷ xs) (suc i) d within = map_at g xs i d (omega (arith, within))
 
--- the count behind it
-pub parted_behind : {A : Type 0} (f g : A → ℕ) (i c : ℕ) (xs : List A) (d : A) → c < i → i < length xs → slice_index (parted f g c xs) i ≡ g (slice_index_or xs i d)
-parted_behind f g i c [] d behind within = absurd (omega (arith, within))
-parted_behind f g zero c (x ∷ xs) d behind within = absurd (omega (arith, behind))
-parted_behind f g (suc i) zero (x ∷ xs) d behind within = map_at g xs i d (omega (arith, within))
-parted_behind f g (suc i) (suc c) (x ∷ xs) d behind within = parted_behind f g i c xs d (omega (arith, behind)) (omega (arith, within))
+-- the count at any place is one of both
+pub parted_either : {A : Type 0} (f g : A → ℕ) (c i : ℕ) (xs : List A) (d : A) → i < length xs → (slice_index (parted f g c xs) i ≡ f (slice_index_or xs i d)) ⊎ (slice_index (parted f g c xs) i ≡ g (slice_index_or xs i d))
+parted_either f g c i [] d within = absurd (omega (arith, within))
+parted_either f g zero i (x ∷ xs) d within = inr (map_at g (x ∷ xs) i d within)
+parted_either f g (suc c) zero (x ∷ xs) d within = inl refl
+parted_either f g (suc c) (suc i) (x ∷ xs) d within = parted_either f g c i xs d (omega (arith, within))
+
+-- as many as there are
+pub parted_count : {A : Type 0} (f g : A → ℕ) (c : ℕ) (xs : List A) → length (parted f g c xs) ≡ length xs
+parted_count f g zero [] = refl
+parted_count f g (suc c) [] = refl
+parted_count f g zero (x ∷ xs) = ap suc (parted_count f g zero xs)
+parted_count f g (suc c) (x ∷ xs) = ap suc (parted_count f g c xs)
 
 -- the place moves on where the count at it is written
 pub parted_set : {A : Type 0} (f g : A → ℕ) (c n : ℕ) (xs : List A) (d : A) → c < length xs → n ≡ f (slice_index_or xs c d) → slice_set (parted f g c xs) c n ≡ parted f g (suc c) xs

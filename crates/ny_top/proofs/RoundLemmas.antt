@@ -2,7 +2,8 @@
 use Rattle.std.proofs.Common.{◌≡◌, ℕ, zero, suc, ◌+◌, ◌-◌, ◌*◌, ◌<◌, ◌≤◌, ◌⊎◌, List, [], ◌∷◌, ◌++◌, map, take, drop, length, Some, Result, Ok, Err, OnOk, OnErr, IfErr, refl, sym, ap, subst, ◌∙◌, arith, ℤ, pos, slice_index, slice_index_or, sum, length-append, length-take, length-drop, inl, inr}
 use Rattle.std.specs.Int.{div_ceil}
 use Rattle.std.specs.Result.{IsErrAnd}
-use Rattle.std.specs.List.{flat_map}
+use Rattle.std.specs.Prelude.{max, fold}
+use Rattle.std.specs.List.{flat_map, range_with_len}
 use Rattle.std.proofs.lemmas.Bool.{cases_lt}
 use Rattle.std.proofs.lemmas.List.{take-append-drop, take-append-le, take_all, append_assoc, append-nil, get_or_past, get_or-take, get_or_append_left, get_or-append_right}
 use Rattle.std.proofs.lemmas.List.Concat.{flat_map-append}
@@ -13,15 +14,20 @@ use Rattle.ny_num.specs.Sound as sounds
 use Rattle.ny_num.specs.Sound.{silence, value_at}
 use Rattle.ny_check.specs.Channels.{channels, frames, longest}
 use Rattle.ny_pull.specs.declared.fault.PullFault.TheVariants as faults
+use Rattle.ny_plan.specs.Plan.{plan}
+use Rattle.ny_plan.specs.Peak.{first_full}
+use Rattle.ny_plan.specs.Lines.{channel_blocks}
 use Rattle.ny_pull.specs.Engine.{EngineState, channel_at, passed_of, SamePiece}
+use Rattle.ny_pull.specs.Ordered.{HasPulled, IsInOrder}
+use Rattle.ny_pull.proofs.TurnLemmas.{rounds_within, rounds_reach, turns_begin, turns_again, turns_end}
 use Rattle.ny_wav.specs.WavFile.{frame_of}
 use Rattle.ny_top.specs.Frames.{heard_at, IsBlock, gathered_in}
 use borrow.Rule.Slice.PartMut.{put_mid}
 use Rattle.std.proofs.lemmas.Slice.{take-put_mid}
-use Rattle.ny_top.specs.Playing.{pulls_of, pulls_in}
-use Rattle.ny_top.specs.Rounds.{IsUnderway, Wrote, WrotePart, Gathered, IsPulledOut, IsPullFault, IsRoundFault, EndsRounds, frames_at, all_bytes, bytes_after, bytes_of_round}
+use Rattle.ny_top.specs.Playing.{pulls_of, pulls_in, upwards, order_of}
+use Rattle.ny_top.specs.Rounds.{IsUnderway, IsAtRound, IsAtTurn, Wrote, WrotePart, Gathered, IsPulledOut, IsPullFault, IsRoundFault, EndsRounds, frames_at, all_bytes, bytes_after, bytes_of_round}
 use Rattle.ny_top.proofs.FrameLemmas.{frames_count}
-use Rattle.ny_top.proofs.PulledLists.{map_at, same_counts, parted_all, parted_none}
+use Rattle.ny_top.proofs.PulledLists.{map_at, same_counts, parted_count, parted_all, parted_none}
 use Rattle.ny_top.proofs.PullLemmas.{no_samples, same_channel, some_left, none_left, next_multiple, one_more, fewer_blocks}
 use Rattle.ny_top.proofs.Stages.{rose_from, quiet_none, quiet_then}
 use Rattle.ny_top.specs.declared.frames.Buffers.{Buffers}
@@ -162,7 +168,20 @@ under_next rounds c e past under = record {
       ∙ sym (parted_none (pulls_in e.heap.block (rounds + 1 + 1)) (pulls_in e.heap.block (rounds + 1)) (channels e.code e.rate));
   unspent = under.unspent;
   laws = under.laws;
+  follows = under.follows;
 }
+
+-- a round begins with channel 0
+pub turns_first : (n : ℕ) (e : EngineState) → IsAtRound (suc n) e → IsAtTurn 0 n e
+turns_first n e at =
+    let whole : length (channels e.code e.rate) ≡ length (channels e.code e.rate) - 0 = omega arith in
+    subst (λ k. IsInOrder (upwards e.code e.rate) (range_with_len 0 k) n e) whole (turns_again (upwards e.code e.rate) n e at)
+
+-- and ends behind its last
+pub turns_last : (c n : ℕ) (e : EngineState) → length (channels e.code e.rate) ≤ c → IsAtTurn c n e → IsAtRound n e
+turns_last c n e past at =
+    let none : length (channels e.code e.rate) - c ≡ 0 = omega (arith, past) in
+    subst (λ k. IsInOrder (upwards e.code e.rate) (range_with_len c k) n e) none at
 
 -- pieces of the same engine have the same frames
 same_frames : (start mid : EngineState) → SamePiece start mid → frames_at mid ≡ frames_at start
@@ -206,7 +225,7 @@ last_part start rounds b old now later before part =
     (gathered_part (bytes_after start rounds) [] b old now later before (part_first (gathered_in b) [] now later part)))
 
 -- a fault of a round is one of the engine that the rounds began with
-fault_from : (start mid e : EngineState) (rounds : ℕ) (fault : RoundFault) → SamePiece start mid → IsPullFault mid e rounds fault → IsPullFault start e rounds fault
+pub fault_from : (start mid e : EngineState) (rounds : ℕ) (fault : RoundFault) → SamePiece start mid → IsPullFault mid e rounds fault → IsPullFault start e rounds fault
 fault_from start mid e rounds Write same never = never
 fault_from start mid e rounds (PoolFull pulls) same (count, spent) = (
   count,
@@ -216,6 +235,7 @@ fault_from start mid e rounds (PoolFull pulls) same (count, spent) = (
     pulls = spent.pulls;
     spent = spent.spent ∙ ap (λ pool. Some (faults.PoolFull (sum e.pulled) pool)) same.pool;
     stopped = spent.stopped;
+    first = sym (λ i. first_full (same.block i) (plan (same.code i) (same.rate i)) (same.pool i) (order_of (same.block i) (same.code i) (same.rate i))) ∙ spent.first;
   },
 )
 fault_from start mid e rounds OutOfMemory same short =
@@ -249,8 +269,12 @@ pub least_bound : (cs : List sounds.Sound) (most : ℕ) (d : sounds.Sound) → (
 least_bound [] most d each = omega arith
 least_bound (s ∷ ss) most d each = omega (arith, each 0, least_bound ss most d (λ c. each (suc c)))
 
-pub pulled_out : (start e : EngineState) (rounds : ℕ) → SamePiece start e → IsUnderway rounds 0 e → longest (channels start.code start.rate) ≤ rounds * start.heap.block → IsPulledOut start e
-pulled_out start e rounds same under over = record {
+-- how many rounds there are
+abbrev pub rounds_of : EngineState → ℕ
+rounds_of e = div_ceil (longest (channels e.code e.rate)) e.heap.block
+
+pub pulled_out : (start e : EngineState) (rounds : ℕ) → SamePiece start e → IsUnderway rounds 0 e → IsAtRound 0 e → longest (channels start.code start.rate) ≤ rounds * start.heap.block → IsPulledOut start e
+pulled_out start e rounds same under at over = record {
   same = same;
   pulls =
       under.pulls
@@ -258,6 +282,7 @@ pulled_out start e rounds same under over = record {
       ∙ same_counts (pulls_in b rounds) (pulls_of b) cs (silence start.rate) (λ c within. all (slice_index_or cs c (silence start.rate)) (within_all c));
   ended = λ c within. omega (arith, enough c within, ap length (same_channel start e c same));
   unspent = under.unspent;
+  order = subst (λ order. HasPulled order e) (λ i. order_of (same.block i) (same.code i) (same.rate i)) (turns_end (upwards e.code e.rate) e at);
 }
   where
     cs : List sounds.Sound
@@ -294,6 +319,33 @@ pulled_out start e rounds same under over = record {
         omega (arith, none_left (pulls_of b (slice_index_or cs c (silence start.rate))) (length (channel_at start c)) b positive (omega arith), passed)
 
 -- ---- the loop
+
+-- before the first round all of them are still to come
+pub order_begins : (e : EngineState) → IsUnderway 0 0 e → HasPulled [] e → IsAtRound (rounds_of e) e
+order_begins e under none = subst (λ n. IsAtRound n e) many (turns_begin (upwards e.code e.rate) e none)
+  where
+    counted : length e.pulled ≡ length (channels e.code e.rate)
+    counted = ap length under.pulls ∙ parted_count (pulls_in e.heap.block (0 + 1)) (pulls_in e.heap.block 0) 0 (channels e.code e.rate)
+
+    most : ℕ
+    most = fold max 0 (channel_blocks e.heap.block (plan e.code e.rate))
+
+    few : most ≤ rounds_of e
+    few = rounds_within e under.follows counted under.laws.positive (rounds_of e) (none_left (rounds_of e) (longest (channels e.code e.rate)) e.heap.block under.laws.positive (omega arith))
+
+    many : most ≡ rounds_of e
+    many = of (cases_lt most (rounds_of e))
+      where
+        of : (most < rounds_of e) ⊎ (rounds_of e ≤ most) → most ≡ rounds_of e
+        of (inl less) =
+            absurd (omega (arith, some_left most (longest (channels e.code e.rate)) e.heap.block under.laws.positive less, rounds_reach e under.follows counted under.laws.positive most (omega arith)))
+        of (inr le) = omega (arith, few, le)
+
+-- one of them is made
+pub order_on : (most n : ℕ) (e : EngineState) → n < most → IsAtRound (most - n) e → IsAtRound (suc (most - (n + 1))) e
+order_on most n e less at =
+    let is : most - n ≡ suc (most - (n + 1)) = omega (arith, less) in
+    subst (λ k. IsAtRound k e) is at
 
 -- between two rounds
 pub record RoundsSoFar (start e : EngineState) (rounds : ℕ) (b : Buffers) (old now : HostState) (file : ℕ) : Type 0 where

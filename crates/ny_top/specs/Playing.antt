@@ -1,7 +1,9 @@
 -- The engine that a run leaves: whether it played a piece to its end, found its pool full, or found memory missing.
-use Rattle.std.specs.Prelude.{◌≡◌, ℕ, ◌+◌, ◌<◌, ◌≤◌, true, List, ◌++◌, take, drop, map, length, min, sum, slice_index_or, Some, None}
+use Rattle.std.specs.Prelude.{◌≡◌, ℕ, ◌+◌, ◌<◌, ◌≤◌, true, List, [], ◌++◌, take, drop, map, length, min, sum, slice_index_or, Option, Some, None}
 use Rattle.std.specs.Int.{div_ceil}
+use Rattle.std.specs.List.{range_with_len}
 use Rattle.ny_num.specs.Grid.{last_index}
+use Rattle.ny_num.specs.declared.rate.Rate.{Rate}
 use Rattle.ny_heap.specs.Heap.{live_of}
 use Rattle.ny_heap.specs.Reach.{HeapLaws}
 use Rattle.ny_heap.specs.Revealing.{has_waiting}
@@ -10,7 +12,12 @@ use Rattle.ny_num.specs.Sound.{silence}
 use Rattle.ny_check.specs.Code.{Code}
 use Rattle.ny_check.specs.Channels.{channels}
 use Rattle.ny_pull.specs.declared.fault.PullFault.TheVariants.{PoolFull, OutOfMemory}
+use Rattle.ny_plan.specs.Plan.{plan}
+use Rattle.ny_plan.specs.Lines.{sequence}
+use Rattle.ny_plan.specs.Peak.{peak_of, first_full}
 use Rattle.ny_pull.specs.Engine.{EngineState, channel_at, HasEnded, SamePiece, StopsAtFull, LacksMemory}
+use Rattle.ny_pull.specs.Planned.{FollowsPlan}
+use Rattle.ny_pull.specs.Ordered.{HasPulled}
 use Rattle.ny_words.specs.Commands.{Render}
 
 -- the engine has the rate, the pool and the block length that are asked for
@@ -36,24 +43,41 @@ pub record IsInRound (rounds c : ℕ) (e : EngineState) : Type 0 where
   pub pulls : e.pulled ≡ pulled_after e.heap.block rounds c (channels e.code e.rate)
   pub more : rounds < pulls_of e.heap.block (slice_index_or (channels e.code e.rate) c (silence e.rate))
 
--- the engine has given all samples of this program, by a pull for each block of each channel
+-- the channels, each once, upwards
+abbrev pub upwards : Code → Rate → List ℕ
+upwards code rate = range_with_len 0 (length (channels code rate))
+
+-- the order in which the blocks of a piece are pulled: its channels upwards, again and again, until all have ended
+abbrev pub order_of : ℕ → Code → Rate → List ℕ
+order_of block code rate = sequence block (plan code rate) (upwards code rate)
+
+-- how many of these pulls are whole before the first that finds all blocks of the pool live at a fill, and none where no pull does
+abbrev pub first_full_of : Render → Code → Option ℕ
+first_full_of r code = first_full r.block (plan code r.rate) r.pool (order_of r.block code r.rate)
+
+-- The engine has given all samples of this program, by a pull for each block of each channel, in order. No fill found all blocks of the pool
+-- live, and the peak is that of the order
 pub record HasPlayed (r : Render) (code : Code) (e : EngineState) : Type 0 where
   pub asked : IsAsked r e
   pub piece : e.code ≡ code
   pub pulls : e.pulled ≡ map (pulls_of r.block) (channels code r.rate)
   pub ended : (c : ℕ) → c < length e.channels → HasEnded e c
   pub unspent : e.spent ≡ None
+  pub room : first_full_of r code ≡ None
+  pub peak : e.heap.peak ≡ peak_of r.block (plan code r.rate) (order_of r.block code r.rate)
 
--- the engine has played so many whole rounds of this program, and its pool was full at a pull of the round after them
+-- The engine has played so many whole rounds of this program, and its pool was full at a pull of the round after them, the first of the order
+-- at which a fill finds all blocks of the pool live
 pub record IsFullAfter (r : Render) (code : Code) (rounds : ℕ) (e : EngineState) : Type 0 where
   pub asked : IsAsked r e
   pub piece : e.code ≡ code
   pub at : ℕ
   pub pulls : IsInRound rounds at e
   pub spent : e.spent ≡ Some (PoolFull (sum e.pulled) r.pool)
+  pub first : first_full_of r code ≡ Some (sum e.pulled)
 
 -- All blocks of the pool are taken, each by somebody who has still to read it. The pull of channel c that found them so began when the
--- engine had made these pulls and was not spent, and a fill that its next block needed found no free block.
+-- engine had made these pulls since it was opened, in this order, and was not spent, and a fill that its next block needed found no free block.
 pub record IsStopped (c : ℕ) (e : EngineState) : Type 0 where
   pub laws : HeapLaws e.heap
   pub taken : live_of e.heap ≡ e.heap.pool
@@ -62,6 +86,8 @@ pub record IsStopped (c : ℕ) (e : EngineState) : Type 0 where
   pub pulls : before.pulled ≡ e.pulled
   pub unspent : before.spent ≡ None
   pub earlier : HeapLaws before.heap
+  pub order : List ℕ
+  pub so : HasPulled order before
   pub stops : StopsAtFull before e c
 
 -- Memory was missing for a part that fell due. The pull of channel c that found it so began when the engine had made these pulls and was
@@ -98,3 +124,5 @@ pub record IsNew (r : Render) (e : EngineState) : Type 0 where
   pub unspent : e.spent ≡ None
   pub laws : HeapLaws e.heap
   pub hour : (c : ℕ) → length (channel_at e c) ≤ last_index r.rate
+  pub follows : FollowsPlan e
+  pub order : HasPulled [] e

@@ -72,9 +72,9 @@ pub fn run<H: Host>(
         → (result ≡ Status.Ok) ⊎ (result ≡ Status.OutOfMemory)
         ⊎ ((result ≡ Status.PoolFull) × IsSomeAnd (read_words (map string_bytes words.now)) (λ command. TaskPoolFull command.task left.new))) }
 
-    // Words have one outcome at most over the same files, where the same engine is left.
-    ensures one_outcome { (files : List Named) (e : Option EngineState) (o other : Outcome)
-        → HasOutcome (map string_bytes words.now) files e o → HasOutcome (map string_bytes words.now) files e other → other ≡ o }
+    // Words have one outcome at most over the same files, whatever engine is left: the files and the words decide at which pull a pool is full.
+    ensures one_outcome { (files : List Named) (e f : Option EngineState) (o other : Outcome)
+        → HasOutcome (map string_bytes words.now) files e o → HasOutcome (map string_bytes words.now) files f other → other ≡ o }
 
     ensures counts { NoneFell (H.state host.old) (H.state host.new) }
     ensures files { (H.state host.new).files ≡ (H.state host.old).files }

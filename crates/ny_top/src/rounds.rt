@@ -1,10 +1,11 @@
-ghost use Rattle.std.specs.Prelude.{◌≡◌, ◌*◌, ◌+◌, ◌<◌, ◌≤◌, ◌++◌, ℕ, Some, length, map, pos, IfErr, OnOk, OnErr};
+ghost use Rattle.std.specs.Prelude.{◌≡◌, ◌*◌, ◌+◌, ◌<◌, ◌≤◌, ◌++◌, ℕ, suc, [], Some, length, map, pos, IfErr, OnOk, OnErr};
 ghost use Rattle.std.specs.List.{range_with_len};
 ghost use Rattle.ny_io.specs.Host.{NoneFell, SameCounts};
 ghost use Rattle.ny_check.specs.Channels.{channels, longest};
 ghost use Rattle.ny_pull.specs.Engine.{EngineState, SamePiece};
+ghost use Rattle.ny_pull.specs.Ordered.{HasPulled};
 ghost use Rattle.ny_top.specs.Frames.{HasRoom, IsBlock, AreBlocks, gathered_in};
-ghost use Rattle.ny_top.specs.Rounds.{IsUnderway, IsPulledOut, IsPullFault, IsRoundFault, EndsRounds, Wrote, WrotePart, Gathered, all_bytes, bytes_of_round};
+ghost use Rattle.ny_top.specs.Rounds.{IsUnderway, IsAtRound, IsAtTurn, IsPulledOut, IsPullFault, IsRoundFault, EndsRounds, Wrote, WrotePart, Gathered, all_bytes, bytes_of_round};
 
 use crate::frames::{Buffers, flush, write_frames};
 use ny_io::Host;
@@ -44,7 +45,8 @@ fn pull_channel(
     ensures same { SamePiece engine.old engine.new }
     ensures underway { (rounds : ℕ) → IsUnderway rounds c engine.old → OnOk result (IsUnderway rounds (c + 1) engine.new) }
     ensures samples { (rounds : ℕ) → IsUnderway rounds c engine.old → OnOk result (IsBlock engine.old rounds c out.new) }
-    ensures fault { (rounds : ℕ) → IsUnderway rounds c engine.old → IfErr result (λ fault. IsPullFault engine.old engine.new rounds fault) }
+    ensures turn { (rounds n : ℕ) → IsUnderway rounds c engine.old → IsAtTurn c n engine.old → OnOk result (IsAtTurn (c + 1) n engine.new) }
+    ensures fault { (rounds n : ℕ) → IsUnderway rounds c engine.old → IsAtTurn c n engine.old → IfErr result (λ fault. IsPullFault engine.old engine.new rounds fault) }
     ensures size { length out.new ≡ length out.old }
 {
     match engine.pull(alloc, c, out) {
@@ -69,7 +71,8 @@ fn pull_channels(
     ensures same { SamePiece engine.old engine.new }
     ensures underway { (rounds : ℕ) → IsUnderway rounds 0 engine.old → OnOk result (IsUnderway (rounds + 1) 0 engine.new) }
     ensures samples { (rounds : ℕ) → IsUnderway rounds 0 engine.old → OnOk result (AreBlocks engine.old rounds samples.new) }
-    ensures fault { (rounds : ℕ) → IsUnderway rounds 0 engine.old → IfErr result (λ fault. IsPullFault engine.old engine.new rounds fault) }
+    ensures turns { (rounds n : ℕ) → IsUnderway rounds 0 engine.old → IsAtRound (suc n) engine.old → OnOk result (IsAtRound n engine.new) }
+    ensures fault { (rounds n : ℕ) → IsUnderway rounds 0 engine.old → IsAtRound (suc n) engine.old → IfErr result (λ fault. IsPullFault engine.old engine.new rounds fault) }
     ensures size { length samples.new ≡ length samples.old }
 {
     for c in 0..engine.channels() {
@@ -113,12 +116,14 @@ fn round<H: Host>(
 ) -> Result<(), RoundFault>
     requires open { (H.state host.old).output ≡ Some file }
     requires underway { IsUnderway round 0 engine.old }
+    requires order { (n : ℕ) × IsAtRound (suc n) engine.old }
     requires left { round * engine.old.heap.block < longest (channels engine.old.code engine.old.rate) }
     requires room { HasRoom (length engine.old.channels) engine.old.heap.block buffers.old }
     ensures counts { NoneFell (H.state host.old) (H.state host.new) }
     ensures quiet { OnOk result (SameCounts (H.state host.old) (H.state host.new)) }
     ensures same { SamePiece engine.old engine.new }
     ensures underway { OnOk result (IsUnderway (round + 1) 0 engine.new) }
+    ensures order { OnOk result ((n : ℕ) → IsAtRound (suc n) engine.old → IsAtRound n engine.new) }
     ensures whole { OnOk result (Gathered (gathered_in buffers.old ++ bytes_of_round engine.old round) buffers.new (H.state host.old) (H.state host.new)) }
     ensures fault { IfErr result (λ fault. IsRoundFault engine.old engine.new round buffers.old (H.state host.old) (H.state host.new) fault) }
     ensures part { OnErr result (WrotePart (gathered_in buffers.old ++ bytes_of_round engine.old round) (H.state host.old) (H.state host.new)) }
@@ -150,6 +155,7 @@ pub(crate) fn rounds<H: Host>(
 ) -> Result<(), RoundFault>
     requires open { (H.state host.old).output ≡ Some file }
     requires underway { IsUnderway 0 0 engine.old }
+    requires order { HasPulled [] engine.old }
     requires block { (16 ≤ engine.old.heap.block) × (engine.old.heap.block ≤ 4096) }
     requires room { HasRoom (length engine.old.channels) engine.old.heap.block buffers.old }
     ensures counts { NoneFell (H.state host.old) (H.state host.new) }

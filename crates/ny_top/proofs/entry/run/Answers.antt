@@ -58,7 +58,7 @@ returns-in-Ok-clause-complete g c =
     })
 
 pub returns-in-Ok-clause-one_outcome : goal.returns-in-Ok-clause-one_outcome
-returns-in-Ok-clause-one_outcome g c = λ files e o other. one_outcome (read_words (map string_bytes c.args.words.now)) files e o other
+returns-in-Ok-clause-one_outcome g c = λ files e f o other. one_outcome (read_words (map string_bytes c.args.words.now)) files e f o other
 
 -- memory was missing to read the words
 
@@ -74,4 +74,4 @@ returns-in-Err-OutOfMemory-clause-complete g c = λ none_rose.
     unread_completes (read_words (map string_bytes c.args.words.now)) c.args.left.now (g.H.Host.state c.args.host.now).files
 
 pub returns-in-Err-OutOfMemory-clause-one_outcome : goal.returns-in-Err-OutOfMemory-clause-one_outcome
-returns-in-Err-OutOfMemory-clause-one_outcome g c = λ files e o other. one_outcome (read_words (map string_bytes c.args.words.now)) files e o other
+returns-in-Err-OutOfMemory-clause-one_outcome g c = λ files e f o other. one_outcome (read_words (map string_bytes c.args.words.now)) files e f o other

@@ -11,10 +11,13 @@ returns-in-Err-clause-part g c =
 
 pub returns-in-Err-clause-fault : goal.returns-in-Err-clause-fault
 returns-in-Err-clause-fault g c =
-    c.end_round.ensures.fault c.args.engine.now c.pull_channels.new.engine c.args.round (c.in-Err.ensures.fault c.args.round c.requires.underway)
+    c.end_round.ensures.fault c.args.engine.now c.pull_channels.new.engine c.args.round (c.in-Err.ensures.fault c.args.round c.requires.order.0 c.requires.underway c.requires.order.1)
 
 pub returns-in-Ok-write_frames-clause-underway : goal.returns-in-Ok-write_frames-clause-underway
 returns-in-Ok-write_frames-clause-underway g c = c.in-Ok.ensures.underway c.args.round c.requires.underway
+
+pub returns-in-Ok-write_frames-clause-order : goal.returns-in-Ok-write_frames-clause-order
+returns-in-Ok-write_frames-clause-order g c = λ n at. c.in-Ok.ensures.turns c.args.round n c.requires.underway at
 
 pub returns-in-Ok-write_frames-clause-whole : goal.returns-in-Ok-write_frames-clause-whole
 returns-in-Ok-write_frames-clause-whole g c =

@@ -3,9 +3,10 @@ use Rattle.ny_pull.specs.Engine.{EngineState, with_pull}
 use Rattle.ny_pull.specs.Inside.{IsEngineInside}
 use Rattle.ny_pull.specs.Places.{unit_at, ReadsAt}
 use Rattle.ny_pull.proofs.PlaceLemmas.{put_back}
-use Rattle.ny_pull.proofs.EngineLemmas.{found_at, playing, channel_of, over_at, held_mid, held_after, few_at, few_pulls, inside_now, count_now, samples_now, some_now, size_now, spends}
-use Rattle.ny_pull.proofs.StateLemmas.{next_is, ended_at, not_ended, none_next, one_pull, stops, lacks, needs_quietly, waits_now, want_is_not_full, all_taken, same_piece, means_channels}
+use Rattle.ny_pull.proofs.EngineLemmas.{found_at, playing, channel_of, over_at, held_mid, held_after, few_at, few_pulls, inside_now, count_now, samples_now, some_now, size_now, spends, none_spent}
+use Rattle.ny_pull.proofs.StateLemmas.{next_is, ended_at, not_ended, none_next, one_pull, stops, lacks, needs_quietly, waits_now, want_is_not_full, all_taken, same_piece, means_channels, within_pulled}
 use Rattle.ny_pull.proofs.PullLemmas.{follows, fills_nothing, fills_as_planned, seated_now, finds_all_live}
+use Rattle.ny_pull.proofs.PulledLemmas.{first_there, then_pulled}
 use Rattle.ny_pull.proofs.engine.Engine.pull.Goals as goal
 
 pub returns-in-Some-clause-means : goal.returns-in-Some-clause-means
@@ -199,7 +200,9 @@ returns-clause-fills c =
     let d = c.in-Ok.ensures in
     let laws = c.program_laws.ensures in
     let reads = subst (λ os. ReadsAt c.drive.new.heap c.read_at-count.new.heap os c.read_at-count.new.channels c.args.c (length c.args.out.now) c.read_at-count.result) c.as_mut_slice.ensures.value c.read_at-count.ensures.reads in
-    fills_as_planned c.self.inside.program c.self.inside.rate c.self.inside.heap c.self.inside.channels.items c.self.inside.pulled.items c.self.inside.frames c.self.inside.pulls c.self.inside.spent c.self.invariant c.in_default.is laws.ordered laws.free laws.made laws.tall c.args.c c.in-Some-unit_at.unit.0.0 found d.walks.0 d.walks.1 c.drive.new.heap d.walks.2 c.read_at-count.new.heap c.read_at-count.new.channels _ _ _ (length c.args.out.now) c.read_at-count.result reads _ c.self.view_is
+    let told = c.count_at.ensures ∙ ap (λ ns. with_pull ns c.args.c) c.as_mut_slice-2.ensures.value in
+    let counts = put_back c.self.inside.pulled.len c.count_at.new.pulled (drop (length c.count_at.new.pulled) c.self.inside.pulled.items) (ap length told ∙ (length-set c.self.inside.pulled.items c.args.c _ ∙ (ap length (sym c.as_mut_slice-2.ensures.value) ∙ c.as_mut_slice-2.ensures.len))) ∙ told in
+    fills_as_planned c.self.inside.program c.self.inside.rate c.self.inside.heap c.self.inside.channels.items c.self.inside.pulled.items c.self.inside.frames c.self.inside.pulls c.self.inside.spent c.self.invariant c.in_default.is laws.ordered laws.free laws.made laws.tall c.args.c c.in-Some-unit_at.unit.0.0 found d.walks.0 d.walks.1 c.drive.new.heap d.walks.2 c.read_at-count.new.heap c.read_at-count.new.channels _ _ _ (length c.args.out.now) c.read_at-count.result reads counts _ c.self.view_is
 
 pub returns-in-Err-PoolFull-clause-finds : goal.returns-in-Err-PoolFull-clause-finds
 returns-in-Err-PoolFull-clause-finds c = λ other unspent.
@@ -220,3 +223,25 @@ returns-in_default-unit_at-clause-follows c = λ unspent. follows c.self.inside.
 
 pub returns-in-Some-clause-follows : goal.returns-in-Some-clause-follows
 returns-in-Some-clause-follows c = λ unspent. follows c.self.inside.program c.self.inside.rate c.self.inside.heap c.self.inside.channels.items c.self.inside.pulled.items c.self.inside.frames c.self.inside.pulls c.self.inside.spent c.self.invariant (ap (λ (e : EngineState). e.spent) c.self.view_is ∙ unspent) c.args.self.now c.self.view_is
+
+pub returns-clause-order : goal.returns-clause-order
+returns-clause-order c = λ order has.
+    let found = found_at c.self.inside.heap c.self.inside.channels.items c.args.c c.in-Some-unit_at.unit.0.0 (ap (λ os. unit_at c.self.inside.heap os c.args.c) (sym c.as_slice.ensures.value) ∙ sym c.in-Some-unit_at.ensures.unit) in
+    let d = c.in-Ok.ensures in
+    let reads = subst (λ os. ReadsAt c.drive.new.heap c.read_at-count.new.heap os c.read_at-count.new.channels c.args.c (length c.args.out.now) c.read_at-count.result) c.as_mut_slice.ensures.value c.read_at-count.ensures.reads in
+    then_pulled order c.args.self.now has c.args.c _ (returns-clause-same c) (returns-clause-fills c) c.read_at-count.result
+    (some_now c.self.inside.program c.self.inside.rate c.self.inside.heap c.drive.new.heap c.read_at-count.new.heap c.self.inside.channels.items c.read_at-count.new.channels c.self.inside.pulled.items c.self.inside.frames c.self.inside.pulls c.self.inside.spent c.self.invariant c.in_default.is c.args.c c.in-Some-unit_at.unit.0.0 (length c.args.out.now) c.read_at-count.result found d.walked d.hears d.ready (c.requires.room ∙ sym (ap (λ (e : EngineState). e.heap.block) c.self.view_is)) reads)
+    (within_pulled c.self.inside.program c.self.inside.rate c.self.inside.channels.items c.self.inside.pulled.items c.self.inside.spent c.self.inside.heap c.args.self.now c.self.view_is c.args.c c.self.inside.frames c.self.inside.pulls c.self.invariant c.requires.channel)
+    (returns-clause-pulled c)
+
+pub returns-in_default-unit_at-clause-order : goal.returns-in_default-unit_at-clause-order
+returns-in_default-unit_at-clause-order c = λ order has. has
+
+pub returns-in-Err-PoolFull-clause-first : goal.returns-in-Err-PoolFull-clause-first
+returns-in-Err-PoolFull-clause-first c = λ other unspent order rest has. first_there order c.args.self.now has c.args.c rest (returns-in-Err-PoolFull-clause-finds c other unspent)
+
+pub returns-in-Err-OutOfMemory-clause-first : goal.returns-in-Err-OutOfMemory-clause-first
+returns-in-Err-OutOfMemory-clause-first c = λ other unspent order rest has. absurd (other refl)
+
+pub returns-in-Some-clause-first : goal.returns-in-Some-clause-first
+returns-in-Some-clause-first c = λ other unspent order rest has. absurd (none_spent _ _ (ap (λ (e : EngineState). e.spent) c.self.view_is ∙ unspent) c.in-Some.is)
