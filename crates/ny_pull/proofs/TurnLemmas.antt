@@ -123,14 +123,17 @@ module _ (turns rest : List ℕ) (c n : ℕ) (e : EngineState) (is : IsInOrder t
 
   -- a turn of a channel that has ended
   turn_over : nat_lt (slice_index e.pulled c) (slice_index of_plan c) ≡ false → (new : EngineState) → SamePiece e new → new.pulled ≡ e.pulled → HasPulled is.done new → (next : IsInOrder turns rest n new) × (next.done ≡ is.done)
-  turn_over over new same pulls has = (record {
-    done = is.done;
-    so = has;
-    whole =
-        (λ i. sequence (same.block i) (plan (same.code i) (same.rate i)) turns)
-        ∙ is.whole ∙ ap (λ b. is.done ++ by_turn b) over
-        ∙ sym (λ i. is.done ++ still_to_pull (channel_blocks (same.block i) (plan (same.code i) (same.rate i))) turns rest n (pulls i));
-  }, refl)
+  turn_over over new same pulls has = (
+    record {
+      done = is.done;
+      so = has;
+      whole =
+          (λ i. sequence (same.block i) (plan (same.code i) (same.rate i)) turns)
+          ∙ is.whole ∙ ap (λ b. is.done ++ by_turn b) over
+          ∙ sym (λ i. is.done ++ still_to_pull (channel_blocks (same.block i) (plan (same.code i) (same.rate i))) turns rest n (pulls i));
+    },
+    refl,
+  )
 
   module _ (more : nat_lt (slice_index e.pulled c) (slice_index of_plan c) ≡ true) where
     -- what follows on the pull of this turn
@@ -142,14 +145,17 @@ module _ (turns rest : List ℕ) (c n : ℕ) (e : EngineState) (is : IsInOrder t
 
     -- a turn that is a pull
     turn_pulled : (new : EngineState) → SamePiece e new → new.pulled ≡ with_pull e.pulled c → HasPulled (is.done ++ c ∷ []) new → (next : IsInOrder turns rest n new) × (next.done ≡ is.done ++ c ∷ [])
-    turn_pulled new same pulls has = (record {
-      done = is.done ++ c ∷ [];
-      so = has;
-      whole =
-          (λ i. sequence (same.block i) (plan (same.code i) (same.rate i)) turns)
-          ∙ goes_on ∙ sym (append_assoc is.done (c ∷ []) after)
-          ∙ sym (λ i. (is.done ++ c ∷ []) ++ still_to_pull (channel_blocks (same.block i) (plan (same.code i) (same.rate i))) turns rest n (pulls i));
-    }, refl)
+    turn_pulled new same pulls has = (
+      record {
+        done = is.done ++ c ∷ [];
+        so = has;
+        whole =
+            (λ i. sequence (same.block i) (plan (same.code i) (same.rate i)) turns)
+            ∙ goes_on ∙ sym (append_assoc is.done (c ∷ []) after)
+            ∙ sym (λ i. (is.done ++ c ∷ []) ++ still_to_pull (channel_blocks (same.block i) (plan (same.code i) (same.rate i))) turns rest n (pulls i));
+      },
+      refl,
+    )
 
     -- a turn that finds the pool full is the first of the order that does
     turn_full : ((later : List ℕ) → first_full e.heap.block (plan e.code e.rate) e.heap.pool (is.done ++ c ∷ later) ≡ Some (length is.done)) → first_full e.heap.block (plan e.code e.rate) e.heap.pool (sequence e.heap.block (plan e.code e.rate) turns) ≡ Some (sum e.pulled)
